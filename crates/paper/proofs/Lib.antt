@@ -1,0 +1,4 @@
+pub mod Least
+pub mod Says
+pub mod Meaning
+pub mod Numbers

@@ -1,0 +1,58 @@
+-- A test and the statement that it decides. Assumes nothing.
+use Prim.Native.Nat.{ℕ, _≤_, _<_}
+use native.Mathlib.Omega.{arith}
+use native.Mathlib.Decide.{ℕ-discrete, decLe, decLt}
+use mathlib.Core.Path.{_≡_, refl, sym}
+use mathlib.Core.Bool.{Bool, true, false, not, _||_, _&&_, true≢false}
+use mathlib.Core.Logic.{_⊎_, inl, inr, ⊎-elim, _↔_}
+use borrow.Author.Tests.{lt-ltb, le-ltb, le-leb, lt-leb, eq-eqb, ne-eqb}
+use lib.Dec.{ltb, leb, eqb}
+use Rattle.paper.specs.Lists.{some}
+use Rattle.paper.proofs.Least.{none-some, is-some}
+
+-- `Says P t`: the test t is true and P holds, or it is false and P does not
+pub data Says (P : Type 0) : Bool → Type 0 where
+  holds : P → Says P true
+  fails : ¬ P → Says P false
+
+pub says-lt : (a b : ℕ) → Says (a < b) (ltb a b)
+says-lt a b = elim (decLt a b) [ yes h ↦ rw (lt-ltb a b h) (holds h) | no n ↦ rw (le-ltb a b (omega arith)) (fails n) ]
+
+pub says-le : (a b : ℕ) → Says (a ≤ b) (leb a b)
+says-le a b = elim (decLe a b) [ yes h ↦ rw (le-leb a b h) (holds h) | no n ↦ rw (lt-leb a b (omega arith)) (fails n) ]
+
+pub says-eq : (a b : ℕ) → Says (a ≡ b) (eqb a b)
+says-eq a b = elim (ℕ-discrete a b) [ yes h ↦ rw (eq-eqb a b h) (holds h) | no n ↦ rw (ne-eqb a b n) (fails n) ]
+
+pub says-not : {P : Type 0} {s : Bool} → Says P s → Says (¬ P) (not s)
+says-not (holds p) = fails (λ n. n p)
+says-not (fails n) = holds n
+
+pub says-and : {P Q : Type 0} {s t : Bool} → Says P s → Says Q t → Says (P × Q) (s && t)
+says-and (holds p) (holds q) = holds (p, q)
+says-and (holds p) (fails n) = fails (λ r. n (r .1))
+says-and (fails n) k = fails (λ r. n (r .0))
+
+pub says-or : {P Q : Type 0} {s t : Bool} → Says P s → Says Q t → Says (P ⊎ Q) (s || t)
+says-or (holds p) k = holds (inl p)
+says-or (fails n) (holds q) = holds (inr q)
+says-or (fails n) (fails m) = fails (λ r. ⊎-elim n m r)
+
+pub says-false : {P : Type 0} {s : Bool} → Says P s → (s ≡ false) ↔ (¬ P)
+says-false (holds p) = (λ e. absurd (true≢false e), λ n. absurd (n p))
+says-false (fails n) = (λ e. n, λ m. refl)
+
+pub says-stable : {P : Type 0} {s : Bool} → Says P s → ¬ (¬ P) → P
+says-stable (holds p) h = p
+says-stable (fails n) h = absurd (h n)
+
+pub says-true : {P : Type 0} {s : Bool} → Says P s → s ≡ true → P
+says-true (holds p) e = p
+says-true (fails n) e = absurd (true≢false (sym e))
+
+pub says-some : {p : ℕ → Bool} {P : ℕ → Type 0} → ((k : ℕ) → Says (P k) (p k)) → (n : ℕ) → Says ((k : ℕ) × (k < n) × P k) (some p n)
+says-some {p} {P} h n = go (some p n) refl
+  where
+    go : (b : Bool) → some p n ≡ b → Says ((k : ℕ) × (k < n) × P k) b
+    go true e = let w = is-some p n e in holds (w .at, w .below, says-true (h (w .at)) (w .holds))
+    go false e = fails (λ s. says-false (h (s .0)) .0 (none-some p n e (s .0) (s .1)) (s .2))

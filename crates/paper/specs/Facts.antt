@@ -1,0 +1,77 @@
+-- "Facts and their evidence": a fact's head, its rows and the edge rule, as the rules 12 to 14 and 16 to 18 test them.
+use Prim.Native.Nat.{ℕ, _-_}
+use mathlib.Core.Bool.{Bool, false, cond, not, _&&_, _||_}
+use lib.Dec.{eqb, ltb, leb}
+use Rattle.paper.specs.Lists.{some}
+use Rattle.paper.specs.Machines.{none}
+use Rattle.paper.specs.Cases.{Row, Fact, Case, inside, size, scopeOf, rowOf, sameSet, fetches}
+
+-- "a number 0 to 7 with that many blocks": how many blocks the row holds.
+unfoldable pub held : Row → ℕ
+held r = cond (ltb (r .number) 8) (r .number) 0
+
+-- The row holds the block x.
+unfoldable pub holds : Row → ℕ → Bool
+holds r x = some (λ k. eqb (r .slot k) x) (held r)
+
+module _ (e : Case) where
+  -- 12: "its loop number, block or l out of range"
+  unfoldable pub badHead : Fact → Bool
+  badHead t =
+      (leb (e .loops) (t .scope) && not (eqb (t .scope) none))
+      || (eqb (t .block) none || (ltb (t .limit) 1 || ltb (e .ways) (t .limit)))
+
+  -- 13: "block below the previous fact's, or equal and its scope starts at or before the previous scope's last node"
+  unfoldable pub badOrder : Fact → Fact → Bool
+  badOrder previous t =
+      ltb (t .block) (previous .block)
+      || (eqb (t .block) (previous .block) && leb (scopeOf e t .first) (scopeOf e previous .last))
+
+  module _ (t : Fact) where
+    -- 14: "no node of the scope fetches b"
+    unfoldable pub unfetched : Bool
+    unfetched = not (some (fetches e t) (size (scopeOf e t)))
+
+    -- "strictly rising, each of b's set, none equal to b or none; free slots are 65,535"
+    unfoldable pub badSlot : Row → ℕ → Bool
+    badSlot r k =
+        cond (ltb k (held r))
+        (eqb (r .slot k) none
+        || (eqb (r .slot k) (t .block) || (not (sameSet e (r .slot k) (t .block)) || (ltb 0 k && leb (r .slot k) (r .slot (k - 1))))))
+        (not (eqb (r .slot k) none))
+
+    -- 16, "at most l-1 blocks … A row whose number is above 9 is not sound."
+    unfoldable pub badRow : Row → Bool
+    badRow r = ltb 9 (r .number) || ((ltb (r .number) 8 && leb (t .limit) (r .number)) || some (badSlot r) 7)
+
+    unfoldable pub badRowAt : ℕ → Bool
+    badRowAt j = badRow (t .row j)
+
+    -- row s lacks a block of row r, or the block x "where u fetches one of b's set"
+    unfoldable pub lacks : ℕ → Row → Row → Bool
+    lacks x r s = some (λ k. not (holds s (r .slot k))) (held r) || (not (eqb x none) && (sameSet e x (t .block) && not (holds s x)))
+
+    -- 17, for an edge u to v inside the scope, where u fetches x and has row r, and v has row s:
+    -- "u fetches b: row v is not 9"; "else row u is 9: nothing is required"; "else row u is 8: row v is 8";
+    -- "else row v is 8, or a set that holds row u's blocks and also u's block where u fetches one of b's set"
+    unfoldable pub breaks : ℕ → Row → Row → Bool
+    breaks x r s =
+        cond (eqb x (t .block)) (eqb (s .number) 9)
+        (cond (eqb (r .number) 9) false
+        (cond (eqb (r .number) 8) (not (eqb (s .number) 8))
+        (cond (eqb (s .number) 8) false (leb 8 (s .number) || lacks x r s))))
+
+    unfoldable pub badStepAt : ℕ → Bool
+    badStepAt i =
+        (inside (scopeOf e t) (e .from i) && inside (scopeOf e t) (e .to i))
+        && breaks (e .block (e .from i)) (rowOf e t (e .from i)) (rowOf e t (e .to i))
+
+    -- 18: "a node that fetches b has row 8"
+    unfoldable pub badManyAt : ℕ → Bool
+    badManyAt j = fetches e t j && eqb (t .row j .number) 8
+
+    -- The number of the first of the rules 16 to 18 that the fact's rows break; 0 where they break none.
+    unfoldable pub evidenceRule : ℕ
+    evidenceRule =
+        cond (some badRowAt (size (scopeOf e t))) 16
+        (cond (some badStepAt (e .edges)) 17 (cond (some badManyAt (size (scopeOf e t))) 18 0))

@@ -1,0 +1,15 @@
+pub mod Answers
+pub mod Lists
+pub mod Machines
+pub mod Operations
+pub mod Traces
+pub mod Cases
+pub mod Graphs
+pub mod Walks
+pub mod Runs
+pub mod Facts
+pub mod Bounds
+pub mod Files
+pub mod Verdicts
+pub mod Demands
+pub mod Checked

@@ -1,0 +1,42 @@
+-- Tests, sums, products and lists over the numbers below n. Each rule of the paper that looks for "the least place" is one `least`.
+use Prim.Native.Nat.{ℕ, zero, suc, _+_, _*_, min}
+use mathlib.Core.Bool.{Bool, true, false, cond}
+use mathlib.Core.List.{List, [], _∷_}
+use lib.Dec.{ltb}
+
+unfoldable pub leastFrom : (ℕ → Bool) → ℕ → ℕ → ℕ
+leastFrom p i zero = i
+leastFrom p i (suc k) =
+    let r = leastFrom p (suc i) k in
+    cond (p i) i r
+
+-- The least i below n at which p holds, and n where there is none.
+unfoldable pub least : (ℕ → Bool) → ℕ → ℕ
+least p n = leastFrom p 0 n
+
+-- Whether p holds at some i below n.
+unfoldable pub some : (ℕ → Bool) → ℕ → Bool
+some p n = ltb (least p n) n
+
+unfoldable pub sumTo : (ℕ → ℕ) → ℕ → ℕ
+sumTo g zero = 0
+sumTo g (suc n) = sumTo g n + g n
+
+-- "Empty products are 1."
+unfoldable pub productTo : (ℕ → ℕ) → ℕ → ℕ
+productTo g zero = 1
+productTo g (suc n) = productTo g n * g n
+
+-- The least of a and of g's values below n.
+unfoldable pub lowestTo : (ℕ → ℕ) → ℕ → ℕ → ℕ
+lowestTo g a zero = a
+lowestTo g a (suc n) = min (lowestTo g a n) (g n)
+
+-- g's values below n, in order.
+unfoldable pub table : {A : Type 0} → (ℕ → A) → ℕ → List A
+table g zero = []
+table g (suc n) = g 0 ∷ table (λ i. g (suc i)) n
+
+abbrev pub bit : Bool → ℕ
+bit true = 1
+bit false = 0

@@ -1,0 +1,111 @@
+-- "The three machines", for every number of ways k at once, and the legal states.
+use Prim.Native.Nat.{ℕ, zero, suc, _-_, _/_, _%_, _^_}
+use mathlib.Core.Bool.{Bool, true, false, cond, not, _&&_, _||_}
+use mathlib.Core.List.{List, [], _∷_, _++_}
+use lib.Dec.{eqb, ltb, leb}
+use lib.ListN.{take, drop, set, replicate}
+use lib.Bits.{bitOr}
+use Rattle.paper.specs.declared.SetState.{SetState}
+use Rattle.paper.specs.declared.Stepped.{Stepped}
+
+-- "A block is a number 0 to 65,534; 65,535 means none."
+abbrev pub none : ℕ
+none = 65535
+
+-- "all sets start empty with bits 0"
+abbrev pub emptySet : SetState
+emptySet = record { lines = replicate 8 none; bits = 0 }
+
+-- The line that b stands in; as many as there are lines where it stands in none.
+unfoldable pub lineOf : List ℕ → ℕ → ℕ
+lineOf [] b = 0
+lineOf (x ∷ lines) b = cond (eqb x b) 0 (suc (lineOf lines b))
+
+-- b stands in one of the k ways.
+unfoldable pub hits : ℕ → List ℕ → ℕ → Bool
+hits k lines b = ltb (lineOf (take k lines) b) k
+
+-- b comes to line 0 and lines 0 to j-1 one down; what stood in line j is there no more.
+unfoldable pub pushed : ℕ → List ℕ → ℕ → List ℕ
+pushed j lines b = b ∷ (take j lines ++ drop (suc j) lines)
+
+-- "A miss moves all one down; the last is lost."
+abbrev pub oneDown : ℕ → List ℕ → ℕ → List ℕ
+oneDown k lines b = pushed (k - 1) lines b
+
+-- "LRU. Line 0 is the youngest. A hit at line j moves the block to line 0 and lines 0 to j-1 one down."
+unfoldable pub lruStep : ℕ → SetState → ℕ → Stepped
+lruStep k s b =
+    record {
+      state =
+          record {
+            lines = cond (hits k (s .lines) b) (pushed (lineOf (take k (s .lines)) b) (s .lines) b) (oneDown k (s .lines) b);
+            bits = s .bits;
+          };
+      hit = hits k (s .lines) b;
+    }
+
+-- "FIFO. A miss as in LRU. A hit changes nothing."
+unfoldable pub fifoStep : ℕ → SetState → ℕ → Stepped
+fifoStep k s b =
+    record {
+      state = record { lines = cond (hits k (s .lines) b) (s .lines) (oneDown k (s .lines) b); bits = s .bits };
+      hit = hits k (s .lines) b;
+    }
+
+-- The lowest of lines 0 to n-1 whose bit is 0; n where all their bits are 1.
+unfoldable pub lowestClear : ℕ → ℕ → ℕ
+lowestClear zero bits = 0
+lowestClear (suc n) bits = cond (eqb (bits % 2) 0) 0 (suc (lowestClear n (bits / 2)))
+
+-- "A miss takes the lowest line whose bit is 0, even where another line is empty." (A legal state has such a line: if none is before it, the last.)
+unfoldable pub victim : ℕ → ℕ → ℕ
+victim k bits = lowestClear (k - 1) bits
+
+-- "The accessed line's bit becomes 1; if then all k bits are 1, all the others become 0."
+unfoldable pub marked : ℕ → ℕ → ℕ → ℕ
+marked k bits j = cond (eqb (bitOr bits (2 ^ j) % 2 ^ k) (2 ^ k - 1)) (2 ^ j) (bitOr bits (2 ^ j))
+
+-- "NMRU": the line that an access of b goes to.
+unfoldable pub nmruLine : ℕ → SetState → ℕ → ℕ
+nmruLine k s b = cond (hits k (s .lines) b) (lineOf (take k (s .lines)) b) (victim k (s .bits))
+
+unfoldable pub nmruStep : ℕ → SetState → ℕ → Stepped
+nmruStep k s b =
+    record {
+      state = record { lines = set (s .lines) (nmruLine k s b) b; bits = marked k (s .bits) (nmruLine k s b) };
+      hit = hits k (s .lines) b;
+    }
+
+-- "policy (0 LRU, 1 FIFO, 2 NMRU)"
+unfoldable pub step : ℕ → ℕ → SetState → ℕ → Stepped
+step policy k s b = cond (eqb policy 0) (lruStep k s b) (cond (eqb policy 1) (fifoStep k s b) (nmruStep k s b))
+
+-- "A set has k ways (LRU, FIFO 1 to 8; NMRU 2 to 8)"
+unfoldable pub offered : ℕ → ℕ → Bool
+offered policy k = leb policy 2 && (leb k 8 && ltb (cond (eqb policy 2) 1 0) k)
+
+-- "With S sets (1 to 64)"
+unfoldable pub inRange : ℕ → ℕ → ℕ → Bool
+inRange policy k sets = offered policy k && (ltb 0 sets && leb sets 64)
+
+unfoldable pub stands : List ℕ → ℕ → Bool
+stands [] b = false
+stands (x ∷ lines) b = cond (eqb x b) true (stands lines b)
+
+-- "no block stands in two lines"
+unfoldable pub distinct : List ℕ → Bool
+distinct [] = true
+distinct (x ∷ lines) = cond (eqb x none) (distinct lines) (cond (stands lines x) false (distinct lines))
+
+-- "the lines from k on are empty"
+unfoldable pub empty : List ℕ → Bool
+empty [] = true
+empty (x ∷ lines) = cond (eqb x none) (empty lines) false
+
+-- "the bits are 0 for LRU and FIFO; for NMRU the bits from k on are 0 and at least one of the low k is 0"
+unfoldable pub legalBits : ℕ → ℕ → ℕ → Bool
+legalBits policy k bits = cond (eqb policy 2) (ltb bits (2 ^ k - 1)) (eqb bits 0)
+
+unfoldable pub legal : ℕ → ℕ → SetState → Bool
+legal policy k s = distinct (s .lines) && (empty (drop k (s .lines)) && legalBits policy k (s .bits))

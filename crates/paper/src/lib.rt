@@ -1,0 +1,87 @@
+// The types that cross crate borders. What they mean stands in specs/, section by section of the paper.
+ghost use mathlib.Core.Path.{_≡_};
+ghost use Rattle.paper.specs.Answers as Answers;
+
+// "Addresses, block numbers and set numbers, which the sources distinguish, are each kept apart."
+pub struct Address(pub u32);
+
+pub struct Block(pub u16);
+
+pub struct SetNumber(pub u8);
+
+// "is held as eight lines and one byte of bits"
+pub struct SetState {
+    pub lines: [u16; 8],
+    pub bits: u8,
+}
+
+// A machine's step: the new state, and whether the access hit.
+pub struct Stepped {
+    pub state: SetState,
+    pub hit: bool,
+}
+
+// "Each returns number and place."
+pub struct Refusal {
+    pub number: u8,
+    pub place: usize,
+}
+
+pub enum Verdict {
+    Accepted,
+    Refused(Refusal),
+}
+
+pub enum TraceAnswer {
+    Misses(usize),
+    Refused(Refusal),
+}
+
+pub enum Outcome {
+    Hit,
+    Miss,
+    Refused(Refusal),
+}
+
+pub struct StepAnswer {
+    pub state: SetState,
+    pub outcome: Outcome,
+}
+
+pub enum BlockAnswer {
+    Found(Block),
+    Refused(Refusal),
+}
+
+pub enum SetAnswer {
+    Found(SetNumber),
+    Refused(Refusal),
+}
+
+// "The loops are handed on as a list of records: first node, last node, bound."
+pub struct Loop {
+    pub first: u16,
+    pub last: u16,
+    pub bound: u32,
+}
+
+// What the last 32 bytes of a case file say of it, besides the offsets.
+pub struct Trailer {
+    pub nodes: u16,
+    pub edges: u16,
+    pub loops: u16,
+    pub facts: u16,
+    pub policy: u8,
+    pub ways: u8,
+    pub sets: u8,
+}
+
+// Every refusal is made here.
+pub fn refuse(number: u8, place: usize) -> Refusal
+    ensures { λ r. ⌜ r ≡ Answers.refuse number place ⌝ }
+{
+    Refusal {
+        number: number,
+        place: place,
+    }
+}
