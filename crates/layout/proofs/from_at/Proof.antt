@@ -1,0 +1,12 @@
+use borrow.Author.Needs.{needs}
+use Rattle.paper.specs.Files.{fromAt}
+use Rattle.layout.proofs.from_at.Statement.{statement}
+use Rattle.layout.proofs.from_at.Tie as tie
+
+returns : tie.Need-returns
+unfolding fromAt
+returns c = cc
+
+pub from-at-spec : {M : Type 1} → statement M
+from-at-spec =
+    tie.close (tie.spec (λ c. search needs) (λ c. search needs) (λ c. search needs) (λ c. search needs) (λ c κs. search needs) returns)

@@ -1,0 +1,26 @@
+use borrow.Author.Needs.{needs}
+use Rattle.paper.specs.Files.{loopAt}
+use Rattle.layout.proofs.loop_at.Statement.{statement}
+use Rattle.layout.proofs.loop_at.Tie as tie
+
+returns : tie.Need-returns
+unfolding loopAt
+returns c = cc
+
+pub loop-at-spec : {M : Type 1} → statement M
+loop-at-spec =
+    tie.close
+    (tie.spec
+    (λ c. search needs)
+    (λ c. search needs)
+    (λ c. search needs)
+    (λ c. search needs)
+    (λ c. search needs)
+    (λ c. search needs)
+    (λ c. search needs)
+    (λ c κs. search needs)
+    (λ c. search needs)
+    (λ c κs. search needs)
+    (λ c. search needs)
+    (λ c κs. search needs)
+    returns)

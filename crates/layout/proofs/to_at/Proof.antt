@@ -1,0 +1,13 @@
+use borrow.Author.Needs.{needs}
+use Rattle.paper.specs.Files.{toAt}
+use Rattle.layout.proofs.to_at.Statement.{statement}
+use Rattle.layout.proofs.to_at.Tie as tie
+
+returns : tie.Need-returns
+unfolding toAt
+returns c = cc
+
+pub to-at-spec : {M : Type 1} → statement M
+to-at-spec =
+    tie.close
+    (tie.spec (λ c. search needs) (λ c. search needs) (λ c. search needs) (λ c. search needs) (λ c. search needs) (λ c κs. search needs) returns)
