@@ -4,4 +4,8 @@ pub mod Sums
 pub mod Products
 pub mod Tables
 pub mod Meaning
+pub mod GraphLaws
+pub mod RowLaws
+pub mod FactLaws
+pub mod VerdictLaws
 pub mod Numbers

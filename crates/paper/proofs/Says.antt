@@ -3,7 +3,7 @@ use Prim.Native.Nat.{ℕ, _≤_, _<_}
 use native.Mathlib.Omega.{arith}
 use native.Mathlib.Decide.{ℕ-discrete, decLe, decLt}
 use mathlib.Core.Path.{_≡_, refl, sym}
-use mathlib.Core.Bool.{Bool, true, false, not, _||_, _&&_, true≢false}
+use mathlib.Core.Bool.{Bool, true, false, cond, not, _||_, _&&_, true≢false}
 use mathlib.Core.Logic.{_⊎_, inl, inr, ⊎-elim, _↔_}
 use borrow.Author.Tests.{lt-ltb, le-ltb, le-leb, lt-leb, eq-eqb, ne-eqb}
 use lib.Dec.{ltb, leb, eqb}
@@ -37,6 +37,15 @@ pub says-or : {P Q : Type 0} {s t : Bool} → Says P s → Says Q t → Says (P 
 says-or (holds p) k = holds (inl p)
 says-or (fails n) (holds q) = holds (inr q)
 says-or (fails n) (fails m) = fails (λ r. ⊎-elim n m r)
+
+pub says-no : Says ⊥ false
+says-no = fails (λ x. x)
+
+pub says-cond : {P Q R : Type 0} {s t u : Bool} → Says P s → Says Q t → Says R u → Says ((P × Q) ⊎ (¬ P × R)) (cond s t u)
+says-cond (holds p) (holds q) r = holds (inl (p, q))
+says-cond (holds p) (fails n) r = fails (λ x. ⊎-elim (λ y. n (y .1)) (λ y. y .0 p) x)
+says-cond (fails n) q (holds r) = holds (inr (n, r))
+says-cond (fails n) q (fails m) = fails (λ x. ⊎-elim (λ y. n (y .0)) (λ y. m (y .1)) x)
 
 pub says-false : {P : Type 0} {s : Bool} → Says P s → (s ≡ false) ↔ (¬ P)
 says-false (holds p) = (λ e. absurd (true≢false e), λ n. absurd (n p))

@@ -1,0 +1,131 @@
+-- What the rules 12, 14 and 16 to 18 say of a whole fact, both ways. Assumes nothing.
+use Prim.Native.Nat.{ℕ, zero, suc, _+_, _-_, _≤_, _<_}
+use native.Mathlib.Omega.{arith}
+use mathlib.Core.Path.{_≡_, refl, sym, _∙_, ap, subst}
+use mathlib.Core.Logic.{_≢_, _⊎_, inl, inr, ⊎-elim, _↔_}
+use mathlib.Core.Bool.{Bool, true, false, cond, not, _&&_}
+use borrow.Author.Tests.{not-false}
+use Rattle.paper.specs.Machines.{none}
+use Rattle.paper.specs.Lists.{some}
+use Rattle.paper.specs.Cases.{Row, Fact, Case, inside, size, scopeOf, rowOf, fetches}
+use Rattle.paper.specs.Walks.{Edge}
+use Rattle.paper.specs.Facts.{badHead, unfetched, badRow, badRowAt, breaks, badStepAt, badManyAt, evidenceRule}
+use Rattle.paper.proofs.Least.{None, none-some, some-none, is-some}
+use Rattle.paper.proofs.Says.{Says, says-lt, says-le, says-eq, says-not, says-and, says-or, says-false, says-true, says-stable}
+use Rattle.paper.proofs.Meaning.{In, SoundRow, EdgeRule, SoundEvidence, SoundHead}
+use Rattle.paper.proofs.GraphLaws.{inside-says}
+use Rattle.paper.proofs.RowLaws.{row-law, edge-law, breaks-says}
+
+module _ (e : Case) (t : Fact) where
+  -- 12
+  head-says : Says (((e .loops ≤ t .scope) × ¬ (t .scope ≡ none)) ⊎ ((t .block ≡ none) ⊎ ((t .limit < 1) ⊎ (e .ways < t .limit)))) (badHead e t)
+  unfolding badHead
+  head-says = says-or (says-and (says-le _ _) (says-not (says-eq _ _))) (says-or (says-eq _ _) (says-or (says-lt _ _) (says-lt _ _)))
+
+  pub head-sound : badHead e t ≡ false → SoundHead e t
+  head-sound h =
+      let n = says-false head-says .0 h in
+      record {
+        scope = λ p. let m : ¬ (e .loops ≤ t .scope) = λ q. n (inl (q, p)) in omega arith;
+        block = λ p. n (inr (inl p));
+        low = let m : ¬ (t .limit < 1) = λ p. n (inr (inr (inl p))) in omega arith;
+        high = let m : ¬ (e .ways < t .limit) = λ p. n (inr (inr (inr p))) in omega arith;
+      }
+
+  -- the scope's nodes, by node and by place
+  abbrev first : ℕ
+  first = scopeOf e t .first
+
+  abbrev last : ℕ
+  last = scopeOf e t .last
+
+  fetches-says : (j : ℕ) → Says (e .block (first + j) ≡ t .block) (fetches e t j)
+  unfolding fetches
+  fetches-says j = says-eq _ _
+
+  back : (v : ℕ) → first ≤ v → first + (v - first) ≡ v
+  back v h = omega arith
+
+  place : (j : ℕ) → first + j - first ≡ j
+  place j = omega arith
+
+  below : (v : ℕ) → In (scopeOf e t) v → v - first < size (scopeOf e t)
+  below v i = omega arith
+
+  within : (j : ℕ) → j < size (scopeOf e t) → In (scopeOf e t) (first + j)
+  within j h = (omega arith, omega arith)
+
+  -- 14
+  pub fetched : unfetched e t ≡ false → (v : ℕ) × In (scopeOf e t) v × (e .block v ≡ t .block)
+  unfolding unfetched
+  fetched h =
+      let w = is-some _ _ (not-false _ h) in
+      (first + w .at, within (w .at) (w .below), says-true (fetches-says (w .at)) (w .holds))
+
+  -- an edge that breaks the edge rule
+  abbrev Step : ℕ → Type 0
+  Step i = EdgeRule e t (e .block (e .from i)) (rowOf e t (e .from i)) (rowOf e t (e .to i))
+
+  step-keeps : (i : ℕ) → badStepAt e t i ≡ false → In (scopeOf e t) (e .from i) → In (scopeOf e t) (e .to i) → Step i
+  unfolding badStepAt
+  step-keeps i h a b =
+      let s = says-and (says-and (inside-says _ _) (inside-says _ _)) (breaks-says e t _ _ _) in
+      edge-law e t _ _ _ .0 (says-false (breaks-says e t _ _ _) .1 (λ x. says-false s .0 h ((a, b), x)))
+
+  keeps-step : (i : ℕ) → (In (scopeOf e t) (e .from i) → In (scopeOf e t) (e .to i) → Step i) → badStepAt e t i ≡ false
+  unfolding badStepAt
+  keeps-step i c =
+      says-false (says-and (says-and (inside-says _ _) (inside-says _ _)) (breaks-says e t _ _ _)) .1
+      (λ x. says-false (breaks-says e t _ _ _) .0 (edge-law e t _ _ _ .1 (c (x .0 .0) (x .0 .1))) (x .1))
+
+  many-says : (j : ℕ) → Says ((e .block (first + j) ≡ t .block) × (t .row j .number ≡ 8)) (badManyAt e t j)
+  unfolding badManyAt
+  many-says j = says-and (fetches-says j) (says-eq _ _)
+
+  -- no row, edge or node breaks one of the rules 16 to 18
+  record KeptEvidence : Type 0 where
+    rows : None (badRowAt e t) (size (scopeOf e t))
+    edges : None (badStepAt e t) (e .edges)
+    many : None (badManyAt e t) (size (scopeOf e t))
+
+  row-at : (v : ℕ) → In (scopeOf e t) v → None (badRowAt e t) (size (scopeOf e t)) → SoundRow e t (rowOf e t v)
+  unfolding badRowAt
+  row-at v i n = row-law e t _ .0 (n (v - first) (below v i))
+
+  kept-sound : KeptEvidence → SoundEvidence e t
+  kept-sound k =
+      record {
+        rows = λ v i. row-at v i (k .rows);
+        edges = λ u v x a b. edge u v (x .0) (x .1) (x .2) (x .3) a b;
+        many = λ v i p q. says-false (many-says (v - first)) .0 (k .many (v - first) (below v i)) (ap (e .block) (back v (i .0)) ∙ p, q);
+      }
+    where
+      edge : (u v i : ℕ) → i < e .edges → e .from i ≡ u → e .to i ≡ v → In (scopeOf e t) u → In (scopeOf e t) v → EdgeRule e t (e .block u) (rowOf e t u) (rowOf e t v)
+      edge u v i h p q = rw (← p, ← q) (step-keeps i (k .edges i h))
+
+  sound-kept : SoundEvidence e t → KeptEvidence
+  unfolding badRowAt
+  sound-kept s =
+      record {
+        rows = λ j h. row-law e t _ .1 (subst (λ (i : ℕ). SoundRow e t (t .row i)) (place j) (s .rows (first + j) (within j h)));
+        edges = λ i h. keeps-step i (λ a b. s .edges (e .from i) (e .to i) (i, h, refl, refl) a b);
+        many = λ j h. says-false (many-says j) .1 (λ p. s .many (first + j) (within j h) (p .0) (ap (λ (i : ℕ). t .row i .number) (place j) ∙ p .1));
+      }
+
+  pass : (b : Bool) (k r : ℕ) → cond b (suc k) r ≡ 0 → (b ≡ false) × (r ≡ 0)
+  pass true k r h = absurd (omega arith)
+  pass false k r h = (refl, h)
+
+  -- The rows pass 16 to 18 exactly when they are sound evidence.
+  pub evidence-law : (evidenceRule e t ≡ 0) ↔ SoundEvidence e t
+  unfolding evidenceRule
+  evidence-law = (
+    λ h.
+        let a = pass _ 15 _ h in
+        let b = pass _ 16 _ (a .1) in
+        let c = pass _ 17 _ (b .1) in
+        kept-sound (record { rows = none-some _ _ (a .0); edges = none-some _ _ (b .0); many = none-some _ _ (c .0) }),
+    λ s.
+        let k = sound-kept s in
+        rw (some-none _ _ (k .rows), some-none _ _ (k .edges), some-none _ _ (k .many)) refl,
+  )
