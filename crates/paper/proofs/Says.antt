@@ -59,6 +59,10 @@ pub says-true : {P : Type 0} {s : Bool} → Says P s → s ≡ true → P
 says-true (holds p) e = p
 says-true (fails n) e = absurd (true≢false (sym e))
 
+pub says-is : {P : Type 0} {s : Bool} → Says P s → P → s ≡ true
+says-is (holds p) q = refl
+says-is (fails n) q = absurd (n q)
+
 pub says-some : {p : ℕ → Bool} {P : ℕ → Type 0} → ((k : ℕ) → Says (P k) (p k)) → (n : ℕ) → Says ((k : ℕ) × (k < n) × P k) (some p n)
 says-some {p} {P} h n = go (some p n) refl
   where

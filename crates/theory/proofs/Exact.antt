@@ -1,0 +1,106 @@
+-- Demand 3, second half: evidence that the tool accepts exists exactly when few enough blocks can have gathered. Assumes nothing.
+use Prim.Native.Nat.{ℕ, zero, suc, _+_, _*_, _-_, _≤_, _<_}
+use native.Mathlib.Omega.{arith}
+use mathlib.Core.Path.{_≡_, refl, sym, _∙_, ap, subst}
+use mathlib.Core.Logic.{_≢_, _↔_}
+use mathlib.Core.Bool.{Bool, true, false, cond, _&&_}
+use mathlib.Core.List.{List, [], _∷_, List·Memᴰ·head, List·Memᴰ·tail}
+use lib.ListN.{length, getD}
+use lib.Dec.{leb, ltb, eqb}
+use Rattle.paper.specs.declared.Loop.{Loop}
+use Rattle.paper.specs.Machines.{offered, inRange}
+use Rattle.paper.specs.Cases.{Row, Fact, Case, inside, size, scopeOf, rowOf}
+use Rattle.paper.specs.Files.{u16At, nodeAt, rowAt, trailerOf, caseOf, readCase}
+use Rattle.paper.specs.Demands.{Bytes, Gathered, FewGathered, withRows, Evidence, EvidenceExact}
+use Rattle.paper.proofs.Says.{says-and, says-le, says-lt, says-true, says-is}
+use Rattle.paper.proofs.GraphLaws.{inside-says}
+use Rattle.paper.proofs.FactLaws.{head-sound, evidence-law}
+use Rattle.paper.proofs.VerdictLaws.{ten-kept}
+use Rattle.paper.proofs.Meaning.{In, SoundRow, SoundEvidence}
+use Rattle.theory.proofs.SameRow.{Same, same-sound, same-rule}
+use Rattle.theory.proofs.RowBytes.{written, written-length, written-small, written-row}
+use Rattle.theory.proofs.Needed.{sound-few}
+use Rattle.theory.proofs.Enough.{row, row-sound, row-small, row-few, row-rule}
+
+module _ (e : Case) (t : Fact) (small : (v : ℕ) → e .block v < 65536) (low : t .limit ≤ 8) where
+  abbrev scope : Loop
+  scope = scopeOf e t
+
+  -- the gathered rows, from the scope's first node on, and as bytes
+  abbrev rows : ℕ → Row
+  rows j = row e t small low (scope .first + j)
+
+  abbrev bytes : List ℕ
+  bytes = written rows (size scope)
+
+  back : (v : ℕ) → In scope v → scope .first + (v - scope .first) ≡ v
+  back v i = omega arith
+
+  same : (v : ℕ) → In scope v → Same (row e t small low v) (rowAt bytes (16 * (v - scope .first)))
+  same v i =
+      subst (λ (x : ℕ). Same (row e t small low x) (rowAt bytes (16 * (v - scope .first)))) (back v i)
+      (written-row rows (size scope) (v - scope .first) (omega arith))
+
+  within : (v : ℕ) → In scope v → inside scope v ≡ true
+  within v i = says-is (inside-says scope v) i
+
+  gathered-sound : FewGathered e t → SoundEvidence e (withRows e t bytes)
+  gathered-sound b =
+      record {
+        rows = λ v i. same-sound e t bytes _ _ (same v i) (row-sound e t small low v);
+        edges = λ u v x i j. same-rule e t bytes _ _ _ _ _ (same u i) (same v j) (row-rule e t small low u v (x, within u i, within v j));
+        many = λ v i p q. row-few e t small low b v (within v i) p (sym (same v i .number) ∙ q);
+      }
+
+  -- what is gathered does not hang on the fact's rows
+  regathered : (b : List ℕ) (v c : ℕ) → Gathered e t v c → Gathered e (withRows e t b) v c
+  regathered b v c g =
+      record {
+        start = g .start;
+        between = g .between;
+        node = g .node;
+        starts = g .starts;
+        walk = g .walk;
+        free = g .free;
+        passed = g .passed;
+        fetches = g .fetches;
+        other = g .other;
+      }
+
+  pub evidence-exact : 1 ≤ t .limit → Evidence e t ↔ FewGathered e t
+  evidence-exact l = (
+    λ x v i p r o g.
+        sound-few e (withRows e t (x .rows)) l (evidence-law e (withRows e t (x .rows)) .0 (x .passes)) v i p r o
+        (λ c m. regathered (x .rows) v c (g c m)),
+    λ b.
+        record {
+          rows = bytes;
+          bytes =
+              written-small rows (size scope) (λ j h. omega (arith, row-sound e t small low (scope .first + j) .number))
+              (λ j k h i. row-small e t small low (scope .first + j) k);
+          whole = written-length rows (size scope);
+          passes = evidence-law e (withRows e t bytes) .1 (gathered-sound b);
+        },
+  )
+
+-- the numbers of a file of bytes
+byte-at : (f : List ℕ) → Bytes f → (p : ℕ) → getD f p 0 < 256
+byte-at [] h p = omega arith
+byte-at (x ∷ f) h zero = h x (List·Memᴰ·head refl)
+byte-at (x ∷ f) h (suc p) = byte-at f (λ c m. h c (List·Memᴰ·tail m)) p
+
+block-small : (f : List ℕ) → Bytes f → (v : ℕ) → nodeAt f v < 65536
+unfolding nodeAt u16At
+block-small f h v = omega (arith, byte-at f h (2 * v), byte-at f h (2 * v + 1))
+
+few-ways : (p k s : ℕ) → inRange p k s ≡ true → k ≤ 8
+unfolding inRange offered
+few-ways p k s h =
+    says-true (says-and (says-and (says-le p 2) (says-and (says-le k 8) (says-lt (cond (eqb p 2) 1 0) k))) (says-and (says-lt 0 s) (says-le s 64))) h .0 .1 .0
+
+pub file-exact : (f : List ℕ) → EvidenceExact f
+unfolding caseOf
+file-exact f bytes passes t head fetched =
+    let h = head-sound (readCase f) t head in
+    let k = few-ways _ _ _ (ten-kept f _ passes .0 .cache) in
+    evidence-exact (readCase f) t (block-small f bytes) (omega (arith, h .high)) (h .low)

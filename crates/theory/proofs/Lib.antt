@@ -1,0 +1,10 @@
+pub mod Ways
+pub mod Sorted
+pub mod Clear
+pub mod Decided
+pub mod Listed
+pub mod Needed
+pub mod Enough
+pub mod SameRow
+pub mod RowBytes
+pub mod Exact
