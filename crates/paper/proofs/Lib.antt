@@ -3,6 +3,8 @@ pub mod Says
 pub mod Sums
 pub mod Products
 pub mod Tables
+pub mod Bits
+pub mod States
 pub mod Meaning
 pub mod GraphLaws
 pub mod RowLaws

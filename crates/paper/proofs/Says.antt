@@ -59,6 +59,11 @@ pub says-true : {P : Type 0} {s : Bool} → Says P s → s ≡ true → P
 says-true (holds p) e = p
 says-true (fails n) e = absurd (true≢false (sym e))
 
+-- a test of P is a test of all that is equivalent to P
+pub says-as : {P Q : Type 0} {s : Bool} → (P → Q) → (Q → P) → Says P s → Says Q s
+says-as f g (holds p) = holds (f p)
+says-as f g (fails n) = fails (λ q. n (g q))
+
 pub says-is : {P : Type 0} {s : Bool} → Says P s → P → s ≡ true
 says-is (holds p) q = refl
 says-is (fails n) q = absurd (n q)

@@ -3,16 +3,16 @@ use Prim.Native.Nat.{ℕ, zero, suc, _+_, _*_, _-_, _≤_, _<_}
 use native.Mathlib.Omega.{arith}
 use mathlib.Core.Path.{_≡_, refl, sym, _∙_, ap, subst}
 use mathlib.Core.Logic.{_≢_, _↔_}
-use mathlib.Core.Bool.{Bool, true, false, cond, _&&_}
+use mathlib.Core.Bool.{true, false}
 use mathlib.Core.List.{List, [], _∷_, List·Memᴰ·head, List·Memᴰ·tail}
 use lib.ListN.{length, getD}
-use lib.Dec.{leb, ltb, eqb}
 use Rattle.paper.specs.declared.Loop.{Loop}
-use Rattle.paper.specs.Machines.{offered, inRange}
+use Rattle.paper.specs.Machines.{inRange}
 use Rattle.paper.specs.Cases.{Row, Fact, Case, inside, size, scopeOf, rowOf}
 use Rattle.paper.specs.Files.{u16At, nodeAt, rowAt, trailerOf, caseOf, readCase}
 use Rattle.paper.specs.Demands.{Bytes, Gathered, FewGathered, withRows, Evidence, EvidenceExact}
 use Rattle.paper.proofs.Says.{says-and, says-le, says-lt, says-true, says-is}
+use Rattle.paper.proofs.States.{says-offered}
 use Rattle.paper.proofs.GraphLaws.{inside-says}
 use Rattle.paper.proofs.FactLaws.{head-sound, evidence-law}
 use Rattle.paper.proofs.VerdictLaws.{ten-kept}
@@ -94,9 +94,8 @@ unfolding nodeAt u16At
 block-small f h v = omega (arith, byte-at f h (2 * v), byte-at f h (2 * v + 1))
 
 few-ways : (p k s : ℕ) → inRange p k s ≡ true → k ≤ 8
-unfolding inRange offered
-few-ways p k s h =
-    says-true (says-and (says-and (says-le p 2) (says-and (says-le k 8) (says-lt (cond (eqb p 2) 1 0) k))) (says-and (says-lt 0 s) (says-le s 64))) h .0 .1 .0
+unfolding inRange
+few-ways p k s h = says-true (says-and (says-offered p k) (says-and (says-lt 0 s) (says-le s 64))) h .0 .most
 
 pub file-exact : (f : List ℕ) → EvidenceExact f
 unfolding caseOf

@@ -16,7 +16,7 @@ use Rattle.paper.proofs.GraphLaws.{inside-says}
 use Rattle.paper.proofs.RowLaws.{held-set, held-other}
 use Rattle.paper.proofs.Tables.{length-table}
 use Rattle.paper.proofs.Meaning.{In, Holds, SoundRow, EdgeRule, SoundEvidence}
-use Rattle.theory.proofs.Ways.{Way, last, next}
+use Rattle.theory.proofs.Reach.{Way, last, next}
 use Rattle.theory.proofs.Clear.{Clear, split}
 use Rattle.theory.proofs.Sorted.{no-longer}
 use Rattle.theory.proofs.Listed.{listed, listed-rising, holds-listed}

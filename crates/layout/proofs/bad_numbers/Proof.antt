@@ -1,0 +1,10 @@
+use Rattle.paper.specs.Files.{badNumbers}
+use Rattle.layout.proofs.bad_numbers.Statement.{statement}
+use Rattle.layout.proofs.bad_numbers.Tie as tie
+
+returns : tie.Need-returns
+unfolding badNumbers
+returns c = cc
+
+pub bad-numbers-spec : {M : Type 1} → statement M
+bad-numbers-spec = tie.close (tie.spec returns)

@@ -1,0 +1,47 @@
+-- The three machines on k lines and no more: what the paper's eight lines show when those from k on are cut away. A list of k blocks is a set's lines. Assumes nothing.
+use Prim.Native.Nat.{ℕ, _-_, _^_, _≤_, _<_}
+use mathlib.Core.Path.{_≡_}
+use mathlib.Core.Logic.{_≢_}
+use mathlib.Core.Bool.{cond}
+use mathlib.Core.List.{List, [], _∷_}
+use lib.Dec.{eqb}
+use lib.ListN.{length, set}
+use Rattle.paper.specs.declared.SetState.{SetState}
+use Rattle.paper.specs.Machines.{none, lineOf, victim, marked}
+use Rattle.theory.proofs.Count.{cnt}
+
+-- 1 where x stands in no line, and else 0
+abbrev pub miss : ℕ → List ℕ → ℕ
+miss x l = 1 - cnt x l
+
+-- c comes to line 0 and the others one down, as far as the line that holds x, or the last: what stood there is there no more
+unfoldable pub shift : ℕ → ℕ → List ℕ → List ℕ
+shift x c [] = []
+shift x c (y ∷ l) = c ∷ cond (eqb y x) l (shift x y l)
+
+-- a hit and a miss of LRU are one shift
+abbrev pub lru : ℕ → List ℕ → List ℕ
+lru x l = shift x x l
+
+unfoldable pub fifo : ℕ → List ℕ → List ℕ
+fifo x l = cond (eqb (cnt x l) 0) (lru x l) l
+
+-- "no block stands in two lines"
+abbrev pub Apart : List ℕ → Type 0
+Apart l = (x : ℕ) → x ≢ none → cnt x l ≤ 1
+
+pub record LegalLines (k : ℕ) (l : List ℕ) : Type 0 where
+  pub apart : Apart l
+  pub lines-k : length l ≡ k
+
+-- NMRU: the line that holds x, or "the lowest line whose bit is 0"
+unfoldable pub spot : ℕ → ℕ → SetState → ℕ
+spot k x s = cond (eqb (cnt x (s .lines)) 0) (victim k (s .bits)) (lineOf (s .lines) x)
+
+abbrev pub nmru : ℕ → ℕ → SetState → SetState
+nmru k x s = record { lines = set (s .lines) (spot k x s) x; bits = marked k (s .bits) (spot k x s) }
+
+pub record LegalWays (k : ℕ) (s : SetState) : Type 0 where
+  pub apart : Apart (s .lines)
+  pub lines-k : length (s .lines) ≡ k
+  pub few : s .bits < 2 ^ k - 1
