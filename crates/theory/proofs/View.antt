@@ -128,6 +128,6 @@ view-of Lru p k e o = rw e (lru-view k (says-true (says-offered 0 k) (rw e at o)
 view-of Fifo p k e o = rw e (fifo-view k (says-true (says-offered 1 k) (rw e at o)))
 view-of Nmru p k e o = rw e (nmru-view k (says-true (says-offered 2 k) (rw e at o)))
 
--- "Legality is kept by every step."
+-- every step keeps a state legal
 pub kept : (p k : ℕ) (s : SetState) (b : ℕ) → offered p k ≡ true → LegalSet p k s → LegalSet p k (step p k s b .state)
 kept p k s b o v = let f = offer p k o in view-of (f .policy) p k (f .is) o .kept b s v
