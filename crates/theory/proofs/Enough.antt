@@ -13,7 +13,7 @@ use Rattle.paper.specs.Facts.{held}
 use Rattle.paper.specs.Demands.{Rising, EdgeInside, Other, Gathered, FewGathered}
 use Rattle.paper.proofs.RowLaws.{held-set, held-other}
 use Rattle.paper.proofs.Meaning.{Holds, SoundRow, Carried, EdgeRule}
-use Rattle.theory.proofs.Listed.{at-mem, mem-at, rising-at}
+use Rattle.theory.proofs.Blocks.{at-mem, mem-at, rising-at}
 use Rattle.theory.proofs.Decided.{Reached, reached?, reached-first, reached-on, gathered, gathered-rising, gathered-iff, gathered-on, gathered-new, gathered-most, few-gathered}
 
 -- a set as a row, and a row without blocks

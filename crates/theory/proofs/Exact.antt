@@ -7,12 +7,11 @@ use mathlib.Core.Bool.{true, false}
 use mathlib.Core.List.{List, [], _∷_, List·Memᴰ·head, List·Memᴰ·tail}
 use lib.ListN.{length, getD}
 use Rattle.paper.specs.declared.Loop.{Loop}
-use Rattle.paper.specs.Machines.{inRange}
 use Rattle.paper.specs.Cases.{Row, Fact, Case, inside, size, scopeOf, rowOf}
 use Rattle.paper.specs.Files.{u16At, nodeAt, rowAt, trailerOf, caseOf, readCase}
 use Rattle.paper.specs.Demands.{Bytes, Gathered, FewGathered, withRows, Evidence, EvidenceExact}
-use Rattle.paper.proofs.Says.{says-and, says-le, says-lt, says-true, says-is}
-use Rattle.paper.proofs.States.{says-offered}
+use Rattle.paper.proofs.Says.{says-true, says-is}
+use Rattle.paper.proofs.States.{says-range}
 use Rattle.paper.proofs.GraphLaws.{inside-says}
 use Rattle.paper.proofs.FactLaws.{head-sound, evidence-law}
 use Rattle.paper.proofs.VerdictLaws.{ten-kept}
@@ -93,13 +92,9 @@ block-small : (f : List ℕ) → Bytes f → (v : ℕ) → nodeAt f v < 65536
 unfolding nodeAt u16At
 block-small f h v = omega (arith, byte-at f h (2 * v), byte-at f h (2 * v + 1))
 
-few-ways : (p k s : ℕ) → inRange p k s ≡ true → k ≤ 8
-unfolding inRange
-few-ways p k s h = says-true (says-and (says-offered p k) (says-and (says-lt 0 s) (says-le s 64))) h .0 .most
-
 pub file-exact : (f : List ℕ) → EvidenceExact f
 unfolding caseOf
 file-exact f bytes passes t head fetched =
     let h = head-sound (readCase f) t head in
-    let k = few-ways _ _ _ (ten-kept f _ passes .0 .cache) in
+    let k = says-true (says-range _ _ _) (ten-kept f _ passes .0 .cache) .0 .most in
     evidence-exact (readCase f) t (block-small f bytes) (omega (arith, h .high)) (h .low)

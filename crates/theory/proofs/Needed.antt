@@ -19,7 +19,7 @@ use Rattle.paper.proofs.Meaning.{In, Holds, SoundRow, EdgeRule, SoundEvidence}
 use Rattle.theory.proofs.Reach.{Way, last, next}
 use Rattle.theory.proofs.Clear.{Clear, split}
 use Rattle.theory.proofs.Sorted.{no-longer}
-use Rattle.theory.proofs.Listed.{listed, listed-rising, holds-listed}
+use Rattle.theory.proofs.Blocks.{blocks, blocks-rising, holds-mem}
 
 -- the row has the block: "many" has all
 abbrev Has : Row → ℕ → Type 0
@@ -84,7 +84,7 @@ module _ (e : Case) (t : Fact) where
           z .few set,
           held-set s set,
           length-table (s .slot) (held s),
-          no-longer (listed s) (x ∷ r) (listed-rising s (z .rising)) o (λ c m. holds-listed s c (h c m .1 n)),
+          no-longer (blocks s) (x ∷ r) (blocks-rising s (z .rising)) o (λ c m. holds-mem s c (h c m .1 n)),
         )
 
   pub sound-few : 1 ≤ t .limit → SoundEvidence e t → FewGathered e t

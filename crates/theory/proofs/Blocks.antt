@@ -11,8 +11,8 @@ use Rattle.paper.specs.Facts.{held}
 use Rattle.paper.specs.Demands.{Rising}
 use Rattle.paper.proofs.Meaning.{Holds}
 
-abbrev pub listed : Row → List ℕ
-listed r = table (r .slot) (held r)
+abbrev pub blocks : Row → List ℕ
+blocks r = table (r .slot) (held r)
 
 -- lists by index
 pub table-mem : (g : ℕ → ℕ) (n i : ℕ) → i < n → List·Memᴰ (g i) (table g n)
@@ -39,11 +39,11 @@ table-rising g (suc n) h = (
   table-rising (λ i. g (suc i)) n (λ k l. h (suc k) (omega arith)),
 )
 
-pub listed-rising : (r : Row) → ((k : ℕ) → suc k < held r → r .slot k < r .slot (suc k)) → Rising (listed r)
-listed-rising r h = table-rising (r .slot) (held r) h
+pub blocks-rising : (r : Row) → ((k : ℕ) → suc k < held r → r .slot k < r .slot (suc k)) → Rising (blocks r)
+blocks-rising r h = table-rising (r .slot) (held r) h
 
-pub holds-listed : (r : Row) (x : ℕ) → Holds r x → List·Memᴰ x (listed r)
-holds-listed r x h = rw (h .2) at (table-mem (r .slot) (held r) (h .0) (h .1))
+pub holds-mem : (r : Row) (x : ℕ) → Holds r x → List·Memᴰ x (blocks r)
+holds-mem r x h = rw (h .2) at (table-mem (r .slot) (held r) (h .0) (h .1))
 
 -- the list's own elements by index
 pub at-mem : (l : List ℕ) (k : ℕ) → k < length l → List·Memᴰ (getD l k none) l

@@ -1,0 +1,81 @@
+-- The run of a walk in any machine: what each visit does to each set, and what it costs. Assumes nothing.
+use Prim.Native.Nat.{ℕ, _%_, _≤_, _<_}
+use native.Mathlib.Omega.{arith}
+use mathlib.Core.Path.{_≡_, refl}
+use mathlib.Core.Logic.{_≢_}
+use mathlib.Core.Bool.{Bool, true, false, cond}
+use mathlib.Core.List.{List, [], _∷_}
+use borrow.Author.Tests.{ne-eqb}
+use lib.Dec.{eqb}
+use Rattle.paper.specs.Machines.{none}
+use Rattle.paper.specs.Cases.{Case, Fact, scopeOf}
+use Rattle.paper.specs.Bounds.{covers, lives}
+use Rattle.paper.proofs.Says.{Says, says-eq, says-not, says-and}
+use Rattle.paper.proofs.GraphLaws.{inside-says}
+use Rattle.paper.proofs.Says.{says-is}
+use Rattle.paper.proofs.Meaning.{In}
+use Rattle.theory.proofs.Law.{Machine, Fair}
+use Rattle.theory.proofs.SumLaws.{cond-le}
+use Rattle.theory.proofs.Costs.{Visit, paid}
+use Rattle.theory.proofs.Passing.{ones}
+
+pub lives-says : (e : Case) (q b : ℕ) → Says ((b ≢ none) × (b % e .sets ≡ q)) (lives e q b)
+unfolding lives
+lives-says e q b = says-and (says-not (says-eq b none)) (says-eq (b % e .sets) q)
+
+pub covers-says : (e : Case) (t : Fact) (v : ℕ) → Says (In (scopeOf e t) v × (e .block v ≡ t .block)) (covers e t v)
+unfolding covers
+covers-says e t v = says-and (inside-says (scopeOf e t) v) (says-eq (e .block v) (t .block))
+
+module _ (e : Case) (M : Machine) where
+  -- a state of each set
+  abbrev pub Held : Type 0
+  Held = ℕ → M .State
+
+  abbrev pub Fine : Held → Type 0
+  Fine c = (q : ℕ) → q < e .sets → M .Legal (c q)
+
+  -- set q's state after a visit of v
+  unfoldable pub moved : ℕ → ℕ → M .State → M .State
+  moved q v s = cond (lives e q (e .block v)) (M .step (e .block v) s) s
+
+  abbrev pub move : ℕ → Held → Held
+  move v c q = moved q v (c q)
+
+  unfoldable pub missAt : ℕ → Held → ℕ
+  missAt v c = cond (eqb (e .block v) none) 0 (M .miss (e .block v) (c (e .block v % e .sets)))
+
+  -- each visit costs its misses
+  abbrev pub misses : List ℕ → Held → List Visit
+  misses [] c = []
+  misses (v ∷ w) c = record { node = v; cost = missAt v c } ∷ misses w (move v c)
+
+  pub moved-to : (q v : ℕ) (s : M .State) → e .block v ≢ none → e .block v % e .sets ≡ q → moved q v s ≡ M .step (e .block v) s
+  unfolding moved
+  moved-to q v s n h = rw (says-is (lives-says e q (e .block v)) (n, h)) refl
+
+  pub miss-at : (v : ℕ) (c : Held) → e .block v ≢ none → missAt v c ≡ M .miss (e .block v) (c (e .block v % e .sets))
+  unfolding missAt
+  miss-at v c n = rw (ne-eqb (e .block v) none n) refl
+
+  module _ (fair : Fair M) (v : ℕ) (c : Held) where
+    pub move-fine : Fine c → Fine (move v c)
+    unfolding moved
+    move-fine h q l = go (lives e q (e .block v))
+      where
+        go : (t : Bool) → M .Legal (cond t (M .step (e .block v) (c q)) (c q))
+        go true = fair .legal (e .block v) (c q) (h q l)
+        go false = h q l
+
+    miss-once : missAt v c ≤ 1
+    unfolding missAt
+    miss-once = go (eqb (e .block v) none)
+      where
+        go : (t : Bool) → cond t 0 (M .miss (e .block v) (c (e .block v % e .sets))) ≤ 1
+        go true = omega arith
+        go false = fair .once (e .block v) (c (e .block v % e .sets))
+
+  -- as many misses as visits at most
+  pub misses-le : Fair M → (test : ℕ → Bool) (w : List ℕ) (c : Held) → paid test (misses w c) ≤ paid test (ones w)
+  misses-le fair test [] c = omega arith
+  misses-le fair test (v ∷ w) c = omega (arith, misses-le fair test w (move v c), cond-le (test v) (λ h. miss-once fair v c))

@@ -1,0 +1,73 @@
+-- A set's misses are at most its bound, and all misses at most the total, in the machines on k lines. Assumes nothing.
+use Prim.Native.Nat.{ℕ, zero, suc, _-_, _%_, _≤_, _<_}
+use native.Mathlib.Omega.{arith}
+use native.Mathlib.Nat.{mod-lt}
+use mathlib.Core.Path.{_≡_, refl, ap}
+use mathlib.Core.Bool.{true, false, not, cond}
+use mathlib.Core.List.{List}
+use borrow.Author.Tests.{eqb-false, not-true}
+use lib.Dec.{eqb}
+use Rattle.paper.specs.Lists.{lowestTo}
+use Rattle.paper.specs.Machines.{none}
+use Rattle.paper.specs.Cases.{Case}
+use Rattle.paper.specs.Walks.{Walk, KeepsLimits}
+use Rattle.paper.specs.Bounds.{lives, anyFact, factBound, A, floorAt, setBound, totalBound}
+use Rattle.paper.proofs.Meaning.{Sound}
+use Rattle.paper.proofs.Says.{says-is}
+use Rattle.theory.proofs.Ranges.{some-set}
+use Rattle.theory.proofs.SumLaws.{sum-le}
+use Rattle.theory.proofs.Costs.{paid, paid-none, paid-split}
+use Rattle.theory.proofs.Policies.{Policy, Lru, Fifo, Nmru, number, ideal, fewest, fair}
+use Rattle.theory.proofs.Moves.{Held, Fine, misses, lives-says}
+use Rattle.theory.proofs.FactBounds.{fact-bounded}
+use Rattle.theory.proofs.SetSums.{set-sum}
+use Rattle.theory.proofs.Floors.{by-floor}
+
+lowest-le : (f : ℕ → ℕ) (x a n : ℕ) → x ≤ a → ((j : ℕ) → j < n → x ≤ f j) → x ≤ lowestTo f a n
+unfolding lowestTo
+lowest-le f x a zero h g = h
+lowest-le f x a (suc n) h g = omega (arith, lowest-le f x a n h (λ j l. g j (omega arith)), g n (omega arith))
+
+module _ (e : Case) (s : Sound e) (w : List ℕ) (walk : Walk e w) (kept : KeepsLimits e w) where
+  by-A : (P : Policy) → e .policy ≡ number P → (o : fewest P ≤ e .ways) (c : Held e (ideal P (e .ways))) → Fine e (ideal P (e .ways)) c →
+      (q : ℕ) → paid (λ v. lives e q (e .block v)) (misses e (ideal P (e .ways)) w c) ≤ A e q
+  unfolding A
+  by-A P is o c fine q =
+      set-sum e s w walk kept (ideal P (e .ways)) (fair P (e .ways) o) (anyFact e) (factBound e) q c
+      (λ i l z. fact-bounded e s w walk kept (e .fact i) (s .facts i l) P is o c fine)
+
+  pub set-bounded : (P : Policy) → e .policy ≡ number P → (o : fewest P ≤ e .ways) (c : Held e (ideal P (e .ways))) → Fine e (ideal P (e .ways)) c →
+      (q : ℕ) → q < e .sets → paid (λ v. lives e q (e .block v)) (misses e (ideal P (e .ways)) w c) ≤ setBound e q
+  unfolding setBound
+  set-bounded P is o c fine q l = go P is o c fine
+    where
+      bound : ℕ → ℕ
+      bound p = cond (eqb p 1) (lowestTo (floorAt e q) (A e q) (e .ways)) (A e q)
+
+      go : (P : Policy) → e .policy ≡ number P → (o : fewest P ≤ e .ways) (c : Held e (ideal P (e .ways))) → Fine e (ideal P (e .ways)) c →
+          paid (λ v. lives e q (e .block v)) (misses e (ideal P (e .ways)) w c) ≤ bound (e .policy)
+      go Lru is o c fine = omega (arith, by-A Lru is o c fine q, ap bound is)
+      go Fifo is o c fine =
+          omega (
+            arith,
+            ap bound is,
+            lowest-le (floorAt e q) _ _ (e .ways) (by-A Fifo is o c fine q) λ j i.
+                by-floor e j i q l s w walk kept c fine,
+          )
+      go Nmru is o c fine = omega (arith, by-A Nmru is o c fine q, ap bound is)
+
+  -- every fetch is of one set
+  pub all-bounded : (P : Policy) → e .policy ≡ number P → (o : fewest P ≤ e .ways) (c : Held e (ideal P (e .ways))) → Fine e (ideal P (e .ways)) c →
+      paid (λ v. not (eqb (e .block v) none)) (misses e (ideal P (e .ways)) w c) ≤ totalBound e
+  unfolding totalBound
+  all-bounded P is o c fine =
+      let r = misses e (ideal P (e .ways)) w c in
+      omega (
+        arith,
+        paid-split (λ v. not (eqb (e .block v) none)) (λ v. false) (λ q. true) (λ q v. lives e q (e .block v)) (e .sets)
+            (λ v h k.
+            (e .block v % e .sets, mod-lt (e .block v) (some-set e s), refl, says-is (lives-says e (e .block v % e .sets) (e .block v)) (eqb-false _ _ (not-true _ h), refl)))
+            r,
+        paid-none r,
+        sum-le (λ q. paid (λ v. lives e q (e .block v)) r) (setBound e) (e .sets) (λ q l. set-bounded P is o c fine q l),
+      )
