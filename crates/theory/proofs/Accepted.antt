@@ -14,4 +14,6 @@ use Rattle.theory.proofs.Demand.{bounds-hold}
 pub accepted-holds : (f : List ℕ) (room : ℕ) → verdict f room ≡ Accepted → (rest : List ℕ) → Holds (readCase f) (numbers (readCase f) ++ rest)
 unfolding verdict caseOf
 accepted-holds f room h rest =
-    bounds-hold (readCase f) (accepted-sound f room h) (in-numbers (trailerOf f) (ten-kept f (factRules f (trailerOf f)) (past (ltb room 321) 20 0 _ h .1) .0 .numbers) .facts) rest
+    bounds-hold (readCase f) (accepted-sound f room h)
+    (in-numbers (trailerOf f) (ten-kept f (factRules f (trailerOf f)) (past (ltb room 321) 20 0 _ h .1) .0 .numbers) .facts)
+    rest

@@ -43,7 +43,8 @@ module _ (e : Case) (s : SoundGraph e) (w : List ℕ) (k : Walk e w) where
       step none v d =
           omega (
             arith,
-            bit-le (says-and (inside-says (e .loop j) v) (holds tt)) (λ (i : In (e .loop j) v × Unit {0}). bit-one (arrives-says (e .loop j .first) none v) (omega arith, tt)),
+            bit-le (says-and (inside-says (e .loop j) v) (holds tt)) λ (i : In (e .loop j) v × Unit {0}).
+                bit-one (arrives-says (e .loop j .first) none v) (omega arith, tt),
           )
       step (some u) v d =
           omega (
@@ -70,17 +71,23 @@ module _ (e : Case) (s : SoundGraph e) (w : List ℕ) (k : Walk e w) where
 
   -- `opens` holds of a visit of a node from a to t, or the node before was one from a to below t; where there is none, that is paid by c
   module _ (t a c : ℕ) (opens : Option ℕ → ℕ → Bool) where
-    arrivals-le : a ≤ t → ((p : Option ℕ) (v : ℕ) → Step e p v → a ≤ v → v ≤ t → (v ≡ t → Below t p) → 1 ≤ bit (opens p v) + credit t a c p) → arrivals t w ≤ tally opens none w + c
+    arrivals-le :
+        a ≤ t → ((p : Option ℕ) (v : ℕ) → Step e p v → a ≤ v → v ≤ t → (v ≡ t → Below t p) → 1 ≤ bit (opens p v) + credit t a c p)
+        → arrivals t w ≤ tally opens none w + c
     arrivals-le at f = tally-le e (arrives t) opens (credit t a c) (λ p v d. step p v d (arrives-says t p v) (says-and (says-le a v) (says-lt v t))) none w k
       where
-        step : (p : Option ℕ) (v : ℕ) → Step e p v → {x y : Bool} → Says ((v ≡ t) × Below t p) x → Says ((a ≤ v) × (v < t)) y → bit x + bit y ≤ bit (opens p v) + credit t a c p
+        step :
+            (p : Option ℕ) (v : ℕ) → Step e p v → {x y : Bool} → Says ((v ≡ t) × Below t p) x → Says ((a ≤ v) × (v < t)) y
+            → bit x + bit y ≤ bit (opens p v) + credit t a c p
         step p v d (holds q) (holds r) = absurd (omega arith)
         step p v d (holds q) (fails r) = omega (arith, f p v d (omega arith) (omega arith) (λ z. q .1))
         step p v d (fails q) (holds r) = omega (arith, f p v d (omega arith) (omega arith) (λ z. absurd (omega arith)))
         step p v d (fails q) (fails r) = omega arith
 
   -- loop j is the innermost over t
-  pub arrivals-header : (t j : ℕ) → j < e .loops → Over t (e .loop j) → ((i : ℕ) → i < e .loops → Over t (e .loop i) → i ≤ j) → arrivals t w ≤ visits (e .loop j .first) w
+  pub arrivals-header :
+      (t j : ℕ) → j < e .loops → Over t (e .loop j) → ((i : ℕ) → i < e .loops → Over t (e .loop i) → i ≤ j)
+      → arrivals t w ≤ visits (e .loop j .first) w
   arrivals-header t j m o inner = omega (arith, tally-visits (e .loop j .first) none w, arrivals-le t (e .loop j .first) 0 opens (omega arith) step)
     where
       opens : Option ℕ → ℕ → Bool
@@ -93,14 +100,17 @@ module _ (e : Case) (s : SoundGraph e) (w : List ℕ) (k : Walk e w) where
             | no p ↦ omega (arith, s .rises i j (omega (arith, inner i n q)) m)
           ]
 
-      step : (p : Option ℕ) (v : ℕ) → Step e p v → e .loop j .first ≤ v → v ≤ t → (v ≡ t → Below t p) → 1 ≤ bit (opens p v) + credit t (e .loop j .first) 0 p
+      step :
+          (p : Option ℕ) (v : ℕ) → Step e p v → e .loop j .first ≤ v → v ≤ t → (v ≡ t → Below t p)
+          → 1 ≤ bit (opens p v) + credit t (e .loop j .first) 0 p
       step none v d h r b = omega (arith, bit-one (says-eq v (e .loop j .first)) (omega arith))
       step (some u) v d h r b =
           elim (ℕ-discrete v (e .loop j .first)) [
             | yes p ↦ omega (arith, bit-one (says-eq v (e .loop j .first)) p)
             | no p ↦
                 let i = from-inside e s u v d j m (omega arith) in
-                let z : u < t = elim (ℕ-discrete v t) [ yes q ↦ b q | no q ↦ from-below e s u v d t (suc (e .loop j .first)) inner-first (omega arith) (omega arith) ] in
+                let z : u < t =
+                elim (ℕ-discrete v t) [ yes q ↦ b q | no q ↦ from-below e s u v d t (suc (e .loop j .first)) inner-first (omega arith) (omega arith) ] in
                 omega (arith, bit-one (says-and (says-le (e .loop j .first) u) (says-lt u t)) (omega arith))
           ]
 

@@ -1,4 +1,5 @@
--- The counts bound the walks that keep the limits: "Count of a node: the product of B over all loops that contain it. Entries of a loop: the product over the loops strictly around it." Assumes nothing.
+-- The counts bound the walks that keep the limits.
+-- "Count of a node: the product of B over all loops that contain it. Entries of a loop: the product over the loops strictly around it." Assumes nothing.
 use Prim.Native.Nat.{ℕ, zero, suc, _+_, _-_, _*_, _≤_, _<_}
 use native.Mathlib.Omega.{arith}
 use native.Mathlib.Decide.{ℕ-discrete}
@@ -50,7 +51,8 @@ module _ (e : Case) (s : SoundGraph e) (w : List ℕ) (k : Walk e w) (f : ℕ �
       (top j m _ (le-trans (stays-arrivals e s w k j m) h))
 
   -- the loops over t are below n
-  arrivals-le-chain : (n t : ℕ) → n ≤ e .loops → ((j : ℕ) → j < e .loops → Over t (e .loop j) → j < n) → arrivals t w ≤ chain f (λ j. over t (e .loop j)) n
+  arrivals-le-chain :
+      (n t : ℕ) → n ≤ e .loops → ((j : ℕ) → j < e .loops → Over t (e .loop j) → j < n) → arrivals t w ≤ chain f (λ j. over t (e .loop j)) n
   unfolding chain
   arrivals-le-chain zero t h low = arrivals-once e s w k t (λ j m o. omega (arith, low j m o))
   arrivals-le-chain (suc n) t h low = go (over-says t (e .loop n)) (λ u. arrivals-le-chain n u (omega arith))
@@ -67,15 +69,16 @@ module _ (e : Case) (s : SoundGraph e) (w : List ℕ) (k : Walk e w) (f : ℕ �
   pub visits-le-chain : (v : ℕ) → visits v w ≤ chain f (λ j. inside (e .loop j) v) (e .loops)
   visits-le-chain v = ⊎-elim plain header (look (λ j. eqb (e .loop j .first) v) (e .loops))
     where
-      same : (n : ℕ) → n ≤ e .loops → ((j : ℕ) → j < n → e .loop j .first ≢ v) → chain f (λ j. over v (e .loop j)) n ≡ chain f (λ j. inside (e .loop j) v) n
-      same n h ne =
+      same :
+          (n : ℕ) → ((j : ℕ) → j < n → e .loop j .first ≢ v) → chain f (λ j. over v (e .loop j)) n ≡ chain f (λ j. inside (e .loop j) v) n
+      same n ne =
           chain-same f (λ j. over v (e .loop j)) (λ j. inside (e .loop j) v) n λ j q.
           let z = ne j q in
           same-test (over-says v (e .loop j)) (inside-says (e .loop j) v) (λ o. omega (arith, o)) (λ i. omega (arith, i))
 
       plain : None (λ j. eqb (e .loop j .first) v) (e .loops) → visits v w ≤ chain f (λ j. inside (e .loop j) v) (e .loops)
       plain no-header =
-          rw (← same (e .loops) (omega arith) (λ j q. eqb-false _ _ (no-header j q)))
+          rw (← same (e .loops) (λ j q. eqb-false _ _ (no-header j q)))
           (le-trans (visits-arrivals e s w k v (λ j m p. eqb-false _ _ (no-header j m) (sym p)))
           (arrivals-le-chain (e .loops) v (omega arith) (λ j m o. m)))
 
@@ -102,7 +105,7 @@ module _ (e : Case) (s : SoundGraph e) (w : List ℕ) (k : Walk e w) (f : ℕ �
                   ap (chain f test) all
                   ∙ chain-end f test (suc j) (e .loops - suc j) (λ i a b. is-false (inside-says (e .loop i) v) (λ o. omega (arith, s .rises j i a (omega arith), o)))
                   ∙ chain-taken f test j (says-is (inside-says (e .loop j) v) (omega (arith, s .fits j m)))
-                  ∙ ap (f j) (sym (same j (omega arith) (λ i q x. omega (arith, s .rises i j q m))))
+                  ∙ ap (f j) (sym (same j (λ i q x. omega (arith, s .rises i j q m))))
 
   pub stays-le-chain : (j : ℕ) → j < e .loops → stays (e .loop j) w ≤ chain f (λ i. around (e .loop j) (e .loop i)) (e .loops)
   stays-le-chain j m =

@@ -1,4 +1,5 @@
--- Demand 3, first half: on every walk that keeps the limits, from every legal content, each fact, each set and all of them miss at most as often as the numbers printed say. Assumes nothing.
+-- Demand 3, first half: on every walk that keeps the limits, from every legal content, each fact, each set and all of them miss at most as often as
+-- the numbers printed say. Assumes nothing.
 use Prim.Native.Nat.{ℕ, _+_, _-_, _≤_, _<_}
 use native.Mathlib.Omega.{arith}
 use mathlib.Core.Path.{_≡_, refl}
@@ -20,7 +21,7 @@ use Rattle.theory.proofs.Policies.{ideal, Offer, offer}
 use Rattle.theory.proofs.View.{View, board, view-of}
 use Rattle.theory.proofs.Ranges.{is-offered, some-set, few-sets}
 use Rattle.theory.proofs.Costs.{paid}
-use Rattle.theory.proofs.Moves.{Held, Fine}
+use Rattle.theory.proofs.Moves.{inSet, Held, Fine}
 use Rattle.theory.proofs.Moves as Moves
 use Rattle.theory.proofs.FactBounds.{fact-bounded}
 use Rattle.theory.proofs.SetBounds.{set-bounded, all-bounded}
@@ -57,7 +58,7 @@ module _ (e : Case) (s : Sound e) (w : List ℕ) (walk : Walk e w) (kept : Keeps
   pub set-holds : (q : ℕ) → q < e .sets → misses (ofSet e q) (run e c w) ≤ setBound e q
   unfolding ofSet lives
   set-holds q l =
-      rw (as-shown (ofSet e q) (λ v. lives e q (e .block v)) (λ v m n. rw (ne-eqb (e .block v) none n) refl))
+      rw (as-shown (ofSet e q) (inSet e q) (λ v m n. rw (ne-eqb (e .block v) none n) refl))
       (set-bounded e s w walk kept (o .policy) (o .is) (o .enough) d fine q l)
 
   pub total-holds : misses (λ a. true) (run e c w) ≤ totalBound e

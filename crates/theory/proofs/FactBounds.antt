@@ -4,8 +4,10 @@ use native.Mathlib.Omega.{arith}
 use native.Mathlib.Decide.{decLe}
 use native.Mathlib.Nat.{mul-add, suc-mul, one-mul, mul-comm, le-trans, div-mul-le-self, le-div-iff-mul-le}
 use mathlib.Core.Path.{_≡_, _∙_, ap}
+use mathlib.Core.Logic.{_≢_}
 use mathlib.Core.List.{List}
 use borrow.Author.Tests.{lt-ltb, le-ltb}
+use Rattle.paper.specs.Machines.{none}
 use Rattle.paper.specs.Cases.{Fact, Case}
 use Rattle.paper.specs.Graphs.{entries}
 use Rattle.paper.specs.Walks.{Walk, KeepsLimits}
@@ -21,7 +23,7 @@ use Rattle.theory.proofs.Policies.{Policy, Lru, Fifo, Nmru, number, ide
 use Rattle.theory.proofs.Moves.{Held, Fine, misses, misses-le}
 use Rattle.theory.proofs.FactRuns.{law-bound}
 
--- FIFO's arithmetic: every g-th access may miss
+-- FIFO's arithmetic: in a stay every g-th access may miss
 spaced : (g F E N : ℕ) → 0 < g → g * F ≤ (g - 1) * E + 1 * N → F ≤ E + (N - E) / g
 spaced g F E N h r =
     elim (decLe F E) [
@@ -48,55 +50,45 @@ module _ (k n : ℕ) (h : 0 < k) (i : 0 < n) where
       let x : ceil k n * n ≡ (ceil k n - 1) * n + n = ap (λ (z : ℕ). z * n) t ∙ suc-mul (ceil k n - 1) n in
       omega (arith, div-mul-le-self (k + (n - 1)) n)
 
-module _ (e : Case) (s : Sound e) (w : List ℕ) (walk : Walk e w) (kept : KeepsLimits e w) (t : Fact) (h : SoundFact e t) where
-  abbrev k : ℕ
-  k = e .ways
-
-  -- l - 1
-  abbrev n : ℕ
-  n = t .limit - 1
-
-  n-low : n < k
-  n-low = omega (arith, h .head)
-
-  module _ (P : Policy) (o : fewest P ≤ e .ways) (c : Held e (ideal P k)) (fine : Fine e (ideal P k) c) where
-    abbrev F : ℕ
-    F = paid (covers e t) (misses e (ideal P k) w c)
-
-    by : (r a d : ℕ) → Law (ideal P k) (t .block) n r a d → r * F ≤ a * entries e t + d * counts e (covers e t)
-    by = law-bound e s w walk kept (ideal P k) (fair P k o) c fine t h
-
-    at-most : F ≤ counts e (covers e t)
-    at-most = le-trans (misses-le e (ideal P k) (fair P k o) (covers e t) w c) (passing-le-counts e (s .graph) (s .nodes) (covers e t) w walk kept)
-
-  -- the table, line by line
-  bounded : (P : Policy) (o : fewest P ≤ e .ways) (c : Held e (ideal P k)) (fine : Fine e (ideal P k) c) →
-      F P o c fine ≤ boundOf (number P) k (t .limit) (entries e t) (counts e (covers e t))
+-- What keeps every law of the machine for b and l, at most N in all, keeps the table's line.
+module _ (k b l E N : ℕ) (real : b ≢ none) (low : 1 ≤ l) (high : l ≤ k) where
+  pub bounded :
+      (P : Policy) → fewest P ≤ k → (F : ℕ) → ((c a d : ℕ) → Law (ideal P k) b (l - 1) c a d → c * F ≤ a * E + d * N) → F ≤ N → F ≤ boundOf (number P) k l E N
   unfolding boundOf
-  bounded Lru o c fine = omega (arith, by Lru o c fine 1 1 0 (lru-law k (t .block) n n-low))
-  bounded Fifo o c fine =
-      elim (decLe 2 (t .limit)) [
+  bounded Lru o F by most = omega (arith, by 1 1 0 (lru-law k b (l - 1) (omega arith)))
+  bounded Fifo o F by most =
+      elim (decLe 2 l) [
         | yes i ↦
-            let z : 0 < n = omega arith in
-            rw (le-ltb (t .limit) 2 i)
-            (spaced (ceil k n) _ _ _ (ceil-pos k n o z) (by Fifo o c fine (ceil k n) (ceil k n - 1) 1 (fifo-law k (t .block) n (ceil k n) (ceil-fits k n o z))))
+            let z : 0 < l - 1 = omega arith in
+            rw (le-ltb l 2 i)
+            (spaced (g k l) F E N (ceil-pos k (l - 1) o z) (by (g k l) (g k l - 1) 1 (fifo-law k b (l - 1) (g k l) (ceil-fits k (l - 1) o z))))
         | no i ↦
-            let z : n ≡ 0 = omega arith in
-            rw (lt-ltb (t .limit) 2 (omega arith)) (omega (arith, by Fifo o c fine 1 1 0 (rw z (fifo-one-law k (t .block) o))))
+            let z : l - 1 ≡ 0 = omega arith in
+            rw (lt-ltb l 2 (omega arith)) (omega (arith, by 1 1 0 (rw z (fifo-one-law k b o))))
       ]
-  bounded Nmru o c fine =
-      let r = by Nmru o c fine 1 (suc n) 0 (nmru-law (t .block) n k (h .head .block) n-low o) in
-      let z : suc n ≡ t .limit = omega (arith, h .head) in
-      let y = ap (λ (u : ℕ). u * entries e t) z in
-      elim (decLe 2 (t .limit)) [
-        | yes i ↦ rw (le-ltb (t .limit) 2 i) (omega (arith, at-most Nmru o c fine))
+  bounded Nmru o F by most =
+      let r = by 1 (suc (l - 1)) 0 (nmru-law b (l - 1) k real (omega arith) o) in
+      let z : suc (l - 1) ≡ l = omega arith in
+      let y : F ≤ l * E = omega (arith, ap (λ (n : ℕ). n * E) z) in
+      elim (decLe 2 l) [
+        | yes i ↦ rw (le-ltb l 2 i) (omega arith)
         | no i ↦
-            let x : t .limit ≡ 1 = omega (arith, h .head) in
-            rw (lt-ltb (t .limit) 2 (omega arith)) (omega (arith, ap (λ (u : ℕ). u * entries e t) x))
+            let x : l ≡ 1 = omega arith in
+            rw (lt-ltb l 2 (omega arith)) (omega (arith, ap (λ (n : ℕ). n * E) x))
       ]
 
-  pub fact-bounded : (P : Policy) → e .policy ≡ number P → (o : fewest P ≤ e .ways) (c : Held e (ideal P k)) → Fine e (ideal P k) c →
-      paid (covers e t) (misses e (ideal P k) w c) ≤ factBound e t
+module _ (e : Case) (s : Sound e) (w : List ℕ) (walk : Walk e w) (kept : KeepsLimits e w) (t : Fact) (h : SoundFact e t) where
+  pub fact-bounded :
+      (P : Policy) → e .policy ≡ number P → (o : fewest P ≤ e .ways) (c : Held e (ideal P (e .ways))) → Fine e (ideal P (e .ways)) c
+      → paid (covers e t) (misses e (ideal P (e .ways)) w c) ≤ factBound e t
   unfolding factBound
   fact-bounded P is o c fine =
-      omega (arith, bounded P o c fine, ap (λ (p : ℕ). boundOf p k (t .limit) (entries e t) (counts e (covers e t))) is)
+      let N = counts e (covers e t) in
+      omega (
+        arith,
+        ap (λ (p : ℕ). boundOf p (e .ways) (t .limit) (entries e t) N) is,
+        bounded (e .ways) (t .block) (t .limit) (entries e t) N (h .head .block) (h .head .low) (h .head .high) P o
+            (paid (covers e t) (misses e (ideal P (e .ways)) w c))
+            (law-bound e s w walk kept (ideal P (e .ways)) (fair P (e .ways) o) c fine t h)
+            (le-trans (misses-le e (ideal P (e .ways)) (fair P (e .ways) o) (covers e t) w c) (passing-le-counts e (s .graph) (s .nodes) (covers e t) w walk kept)),
+      )

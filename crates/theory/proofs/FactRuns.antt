@@ -50,13 +50,13 @@ module _ (e : Case) (M : Machine) (t : Fact) where
       one (fails n) = refl
 
 module _ (e : Case) (s : Sound e) (w : List ℕ) (k : Walk e w) (kept : KeepsLimits e w) where
+  abbrev whole : Loop
+  whole = record { first = 0; last = e .nodes - 1; bound = 1 }
+
   -- "the whole graph with one entry"
-  whole-once : stays (record { first = 0; last = e .nodes - 1; bound = 1 }) w ≤ 1
+  whole-once : stays whole w ≤ 1
   whole-once = omega (arith, tally-none none w, tally-le e (begins whole) (λ p v. false) credit step none w k)
     where
-      whole : Loop
-      whole = record { first = 0; last = e .nodes - 1; bound = 1 }
-
       credit : Option ℕ → ℕ
       credit none = 1
       credit (some u) = 0
@@ -74,17 +74,23 @@ module _ (e : Case) (s : Sound e) (w : List ℕ) (k : Walk e w) (kept : KeepsLim
   unfolding rangeOf entries
   stays-scope t h = go (says-eq (t .scope) Machines.none)
     where
-      go : {b : Bool} → Says (t .scope ≡ Machines.none) b → stays (cond b (record { first = 0; last = e .nodes - 1; bound = 1 }) (e .loop (t .scope))) w ≤ cond b 1 (entriesOf e (e .loop (t .scope)))
+      go : {b : Bool} → Says (t .scope ≡ Machines.none) b → stays (cond b whole (e .loop (t .scope))) w ≤ cond b 1 (entriesOf e (e .loop (t .scope)))
       go (holds p) = whole-once
       go (fails n) = stays-le-entries e (s .graph) w k kept (t .scope) (h .head .scope n)
 
-  module _ (M : Machine) (fair : Fair M) (c : Held e M) (fine : Fine e M c) (t : Fact) (h : SoundFact e t) where
-    pub law-bound : (r a d : ℕ) → Law M (t .block) (t .limit - 1) r a d → r * paid (covers e t) (misses e M w c) ≤ a * entries e t + d * counts e (covers e t)
-    law-bound r a d L =
+  module _ (M : Machine) (t : Fact) (h : SoundFact e t) (r a d : ℕ) (L : Law M (t .block) (t .limit - 1) r a d) where
+    -- whatever legal states the set is put into while nothing is known since b
+    pub taken-bound : (σ : ℕ → M .State) → Taken e M t false w σ → r * missed e M t w σ ≤ a * entries e t + d * counts e (covers e t)
+    taken-bound σ z =
         omega (
           arith,
-          fact-pays e M t (h .head .block) (h .evidence) r a d L w (states e M t w c) (taken e M t (some-set e s) fair false w c fine) k,
-          ap (λ (n : ℕ). r * n) (same-missed e M t (h .head .block) w c),
+          fact-pays e M t (h .head .block) (h .evidence) r a d L w σ z k,
           mul-le-mul-left a (stays-scope t h),
           mul-le-mul-left d (passing-le-counts e (s .graph) (s .nodes) (covers e t) w k kept),
         )
+
+  pub law-bound :
+      (M : Machine) → Fair M → (c : Held e M) → Fine e M c → (t : Fact) → SoundFact e t → (r a d : ℕ) → Law M (t .block) (t .limit - 1) r a d
+      → r * paid (covers e t) (misses e M w c) ≤ a * entries e t + d * counts e (covers e t)
+  law-bound M fair c fine t h r a d L =
+      rw (← same-missed e M t (h .head .block) w c) (taken-bound M t h r a d L (states e M t w c) (taken e M t (some-set e s) fair false w c fine))

@@ -22,7 +22,7 @@ use Rattle.theory.proofs.Law.{Machine}
 use Rattle.theory.proofs.Lru.{LRU, lru-fair, lru-law}
 use Rattle.theory.proofs.Fifo.{FIFO, fifo-fair}
 use Rattle.theory.proofs.Costs.{paid}
-use Rattle.theory.proofs.Moves.{Held, Fine, moved, move, missAt, misses, move-fine, miss-at, lives-says}
+use Rattle.theory.proofs.Moves.{inSet, Held, Fine, moved, move, missAt, misses, move-fine, miss-at, lives-says}
 use Rattle.theory.proofs.FactRuns.{law-bound}
 use Rattle.theory.proofs.SetSums.{set-sum}
 
@@ -53,7 +53,7 @@ module _ (e : Case) (n : ℕ) (fits : n < e .ways) (q : ℕ) (low : q < e .sets)
       go (fails h) = omega (arith, mul-zero d, mul-zero (e .ways))
 
   compared : (w : List ℕ) (s : Held e F) (t : Held e L) → Fine e F s → Fine e L t →
-      d * paid (λ v. lives e q (e .block v)) (misses e F w s) ≤ e .ways * paid (λ v. lives e q (e .block v)) (misses e L w t) + sum (weight (s q)) (t q)
+      d * paid (inSet e q) (misses e F w s) ≤ e .ways * paid (inSet e q) (misses e L w t) + sum (weight (s q)) (t q)
   compared [] s t ls lt = omega (arith, mul-zero d)
   compared (v ∷ w) s t ls lt =
       let r = compared w (move e F v s) (move e L v t) (move-fine e F (fifo-fair (e .ways)) v s ls) (move-fine e L (lru-fair (suc n)) v t lt) in
@@ -73,7 +73,7 @@ module _ (e : Case) (n : ℕ) (fits : n < e .ways) (q : ℕ) (low : q < e .sets)
 
   module _ (sound : Sound e) (w : List ℕ) (walk : Walk e w) (kept : KeepsLimits e w) where
     -- M(l) bounds LRU with l ways
-    lru-M : paid (λ v. lives e q (e .block v)) (misses e L w blank) ≤ M e (suc n) q
+    lru-M : paid (inSet e q) (misses e L w blank) ≤ M e (suc n) q
     unfolding M
     lru-M =
         set-sum e sound w walk kept L (lru-fair (suc n)) (upTo e (suc n)) (entries e) q blank λ i l z.
@@ -84,7 +84,7 @@ module _ (e : Case) (n : ℕ) (fits : n < e .ways) (q : ℕ) (low : q < e .sets)
               (lru-law (suc n) (e .fact i .block) (e .fact i .limit - 1) (omega (arith, leb-true (e .fact i .limit) (suc n) z, h .head .low))),
         )
 
-    pub by-floor : (s : Held e F) → Fine e F s → paid (λ v. lives e q (e .block v)) (misses e F w s) ≤ floorAt e q n
+    pub by-floor : (s : Held e F) → Fine e F s → paid (inSet e q) (misses e F w s) ≤ floorAt e q n
     unfolding floorAt floorOf
     by-floor s ls =
         let h : 0 < d = omega arith in
@@ -94,5 +94,5 @@ module _ (e : Case) (n : ℕ) (fits : n < e .ways) (q : ℕ) (low : q < e .sets)
           compared w s blank ls blank-fine,
           sum-empty (s q) (suc n),
           mul-le-mul-left (e .ways) lru-M,
-          mul-comm (paid (λ v. lives e q (e .block v)) (misses e F w s)) d,
+          mul-comm (paid (inSet e q) (misses e F w s)) d,
         ))

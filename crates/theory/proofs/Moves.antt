@@ -23,6 +23,10 @@ pub lives-says : (e : Case) (q b : ℕ) → Says ((b ≢ none) × (b % e .sets �
 unfolding lives
 lives-says e q b = says-and (says-not (says-eq b none)) (says-eq (b % e .sets) q)
 
+-- the node fetches a block of set q
+abbrev pub inSet : Case → ℕ → ℕ → Bool
+inSet e q v = lives e q (e .block v)
+
 pub covers-says : (e : Case) (t : Fact) (v : ℕ) → Says (In (scopeOf e t) v × (e .block v ≡ t .block)) (covers e t v)
 unfolding covers
 covers-says e t v = says-and (inside-says (scopeOf e t) v) (says-eq (e .block v) (t .block))

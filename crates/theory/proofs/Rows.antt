@@ -46,7 +46,9 @@ module _ (e : Case) (M : Machine) (t : Fact) (c a d : ℕ) (L : Law M (t .block)
     set : r .number < 8 → L .Known m (blocks r) s → Known m r s
     many : r .number ≡ 8 → Known m r s
 
-  widened : (m : ℕ) (R : List ℕ) (r : Row) (s : M .State) → SoundRow e t r → r .number < 8 → ((y : ℕ) → 1 ≤ cnt y R → 1 ≤ cnt y (blocks r)) → L .Known m R s → L .Known m (blocks r) s
+  widened :
+      (m : ℕ) (R : List ℕ) (r : Row) (s : M .State) → SoundRow e t r → r .number < 8 → ((y : ℕ) → 1 ≤ cnt y R → 1 ≤ cnt y (blocks r))
+      → L .Known m R s → L .Known m (blocks r) s
   widened m R r s z h i k = L .wider m R (blocks r) s i (omega (arith, length-table (r .slot) (held r), held-set r h, z .few h)) real k
     where
       real : cnt none (blocks r) ≡ 0
@@ -73,7 +75,8 @@ module _ (e : Case) (M : Machine) (t : Fact) (c a d : ℕ) (L : Law M (t .block)
   carried m v r r′ s lg n z h k = elim (ℕ-discrete (r′ .number) 8) [ yes p ↦ many p | no p ↦ go p k ]
     where
       on :
-          L .Known m (blocks r′) s → (Other e t (e .block v) → Holds r′ (e .block v)) → {g : Bool} → Says ((e .block v ≢ none) × (e .block v % e .sets ≡ t .block % e .sets)) g
+          L .Known m (blocks r′) s → (Other e t (e .block v) → Holds r′ (e .block v))
+          → {g : Bool} → Says ((e .block v ≢ none) × (e .block v % e .sets ≡ t .block % e .sets)) g
           → L .Known m (blocks r′) (cond g (M .step (e .block v) s) s)
       on k w (holds o) = L .other m (e .block v) (blocks r′) s n (holds-cnt r′ (e .block v) (w (n, o .0, o .1))) lg k
       on k w (fails o) = k
@@ -90,6 +93,8 @@ module _ (e : Case) (M : Machine) (t : Fact) (c a d : ℕ) (L : Law M (t .block)
       go p (many l) = absurd (h .other n (omega arith) p .set-before l)
 
   -- an access of b
-  pub again : (m : ℕ) (r : Row) (s : M .State) → r .number ≢ 8 → M .Legal s → Known m r s → (m′ : ℕ) × (c * M .miss (t .block) s + m′ ≤ d + m) × L .Known m′ [] (M .step (t .block) s)
+  pub again :
+      (m : ℕ) (r : Row) (s : M .State) → r .number ≢ 8 → M .Legal s → Known m r s
+      → (m′ : ℕ) × (c * M .miss (t .block) s + m′ ≤ d + m) × L .Known m′ [] (M .step (t .block) s)
   again m r s n lg (set l k) = L .again m (blocks r) s lg k
   again m r s n lg (many l) = absurd (n l)

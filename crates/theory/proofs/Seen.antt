@@ -7,6 +7,7 @@ use mathlib.Core.Logic.{_≢_}
 use mathlib.Core.Bool.{Bool, true, false, not, _&&_, cond}
 use mathlib.Core.List.{List, [], _∷_, _++_}
 use lib.Dec.{eqb}
+use Rattle.paper.specs.declared.SetState.{SetState}
 use Rattle.paper.specs.Lists.{bit}
 use Rattle.paper.specs.Machines.{none, step}
 use Rattle.paper.specs.Traces.{Content, after, missAt}
@@ -21,9 +22,12 @@ use Rattle.theory.proofs.Moves.{Held, moved, move}
 use Rattle.theory.proofs.Moves as Moves
 
 module _ (e : Case) (sets : 0 < e .sets) (N : Machine) (shown : View (board (e .policy) (e .ways)) N) where
-  -- each set's state is legal, and shows the other
-  abbrev pub Seen : Content → Held e N → Type 0
-  Seen c d = (q : ℕ) → q < e .sets → LegalSet (e .policy) (e .ways) (c q) × (shown .view (c q) ≡ d q)
+  -- a state is legal, and shows the other
+  abbrev Shows : SetState → N .State → Type 0
+  Shows s u = LegalSet (e .policy) (e .ways) s × (shown .view s ≡ u)
+
+  abbrev Seen : Content → Held e N → Type 0
+  Seen c d = (q : ℕ) → q < e .sets → Shows (c q) (d q)
 
   module _ (v : ℕ) (c : Content) (d : Held e N) (h : Seen c d) where
     abbrev b : ℕ
@@ -33,13 +37,11 @@ module _ (e : Case) (sets : 0 < e .sets) (N : Machine) (shown : View (board (e .
     unfolding visited after moved lives
     seen-after q l = go (eqb b none)
       where
-        at : (g : Bool) → LegalSet (e .policy) (e .ways) (cond g (step (e .policy) (e .ways) (c q) b .state) (c q))
-            × (shown .view (cond g (step (e .policy) (e .ways) (c q) b .state) (c q)) ≡ cond g (N .step b (d q)) (d q))
+        at : (g : Bool) → Shows (cond g (step (e .policy) (e .ways) (c q) b .state) (c q)) (cond g (N .step b (d q)) (d q))
         at true = let (lg, z) = h q l in (shown .kept b (c q) lg, shown .step b (c q) lg ∙ ap (N .step b) z)
         at false = h q l
 
-        go : (t : Bool) → LegalSet (e .policy) (e .ways) (cond t c (after (e .policy) (e .ways) (e .sets) c b) q)
-            × (shown .view (cond t c (after (e .policy) (e .ways) (e .sets) c b) q) ≡ cond (not t && eqb (b % e .sets) q) (N .step b (d q)) (d q))
+        go : (t : Bool) → Shows (cond t c (after (e .policy) (e .ways) (e .sets) c b) q) (cond (not t && eqb (b % e .sets) q) (N .step b (d q)) (d q))
         go true = h q l
         go false = at (eqb (b % e .sets) q)
 
@@ -50,7 +52,8 @@ module _ (e : Case) (sets : 0 < e .sets) (N : Machine) (shown : View (board (e .
         shown .miss b (c (b % e .sets)) lg ∙ ap (N .miss b) z
 
   -- the run's fetches that pass a test, and the visits of the nodes that pass
-  module _ (test : Fetch → Bool) (node : ℕ → Bool) (agree : (v : ℕ) (m : Bool) → e .block v ≢ none → test (record { node = v; block = e .block v; miss = m }) ≡ node v) where
+  module _ (test : Fetch → Bool) (node : ℕ → Bool)
+      (agree : (v : ℕ) (m : Bool) → e .block v ≢ none → test (record { node = v; block = e .block v; miss = m }) ≡ node v) where
     one : (v : ℕ) (c : Content) (d : Held e N) (r : List Fetch) → Seen c d → misses test (fetched e c v ++ r) ≡ cond (node v) (Moves.missAt e N v d) 0 + misses test r
     unfolding fetched misses Moves.missAt
     one v c d r h = go (says-eq (e .block v) none)
@@ -75,4 +78,6 @@ module _ (e : Case) (sets : 0 < e .sets) (N : Machine) (shown : View (board (e .
     pub run-seen : (w : List ℕ) (c : Content) (d : Held e N) → Seen c d → misses test (run e c w) ≡ paid node (Moves.misses e N w d)
     unfolding run misses
     run-seen [] c d h = refl
-    run-seen (v ∷ w) c d h = one v c d (run e (visited e c v) w) h ∙ ap (λ (x : ℕ). cond (node v) (Moves.missAt e N v d) 0 + x) (run-seen w (visited e c v) (move e N v d) (seen-after v c d h))
+    run-seen (v ∷ w) c d h =
+        one v c d (run e (visited e c v) w) h
+        ∙ ap (λ (x : ℕ). cond (node v) (Moves.missAt e N v d) 0 + x) (run-seen w (visited e c v) (move e N v d) (seen-after v c d h))

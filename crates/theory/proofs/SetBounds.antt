@@ -18,7 +18,7 @@ use Rattle.theory.proofs.Ranges.{some-set}
 use Rattle.theory.proofs.SumLaws.{sum-le}
 use Rattle.theory.proofs.Costs.{paid, paid-none, paid-split}
 use Rattle.theory.proofs.Policies.{Policy, Lru, Fifo, Nmru, number, ideal, fewest, fair}
-use Rattle.theory.proofs.Moves.{Held, Fine, misses, lives-says}
+use Rattle.theory.proofs.Moves.{inSet, Held, Fine, misses, lives-says}
 use Rattle.theory.proofs.FactBounds.{fact-bounded}
 use Rattle.theory.proofs.SetSums.{set-sum}
 use Rattle.theory.proofs.Floors.{by-floor}
@@ -30,14 +30,14 @@ lowest-le f x a (suc n) h g = omega (arith, lowest-le f x a n h (λ j l. g j (om
 
 module _ (e : Case) (s : Sound e) (w : List ℕ) (walk : Walk e w) (kept : KeepsLimits e w) where
   by-A : (P : Policy) → e .policy ≡ number P → (o : fewest P ≤ e .ways) (c : Held e (ideal P (e .ways))) → Fine e (ideal P (e .ways)) c →
-      (q : ℕ) → paid (λ v. lives e q (e .block v)) (misses e (ideal P (e .ways)) w c) ≤ A e q
+      (q : ℕ) → paid (inSet e q) (misses e (ideal P (e .ways)) w c) ≤ A e q
   unfolding A
   by-A P is o c fine q =
       set-sum e s w walk kept (ideal P (e .ways)) (fair P (e .ways) o) (anyFact e) (factBound e) q c
       (λ i l z. fact-bounded e s w walk kept (e .fact i) (s .facts i l) P is o c fine)
 
   pub set-bounded : (P : Policy) → e .policy ≡ number P → (o : fewest P ≤ e .ways) (c : Held e (ideal P (e .ways))) → Fine e (ideal P (e .ways)) c →
-      (q : ℕ) → q < e .sets → paid (λ v. lives e q (e .block v)) (misses e (ideal P (e .ways)) w c) ≤ setBound e q
+      (q : ℕ) → q < e .sets → paid (inSet e q) (misses e (ideal P (e .ways)) w c) ≤ setBound e q
   unfolding setBound
   set-bounded P is o c fine q l = go P is o c fine
     where
@@ -45,7 +45,7 @@ module _ (e : Case) (s : Sound e) (w : List ℕ) (walk : Walk e w) (kept : Keeps
       bound p = cond (eqb p 1) (lowestTo (floorAt e q) (A e q) (e .ways)) (A e q)
 
       go : (P : Policy) → e .policy ≡ number P → (o : fewest P ≤ e .ways) (c : Held e (ideal P (e .ways))) → Fine e (ideal P (e .ways)) c →
-          paid (λ v. lives e q (e .block v)) (misses e (ideal P (e .ways)) w c) ≤ bound (e .policy)
+          paid (inSet e q) (misses e (ideal P (e .ways)) w c) ≤ bound (e .policy)
       go Lru is o c fine = omega (arith, by-A Lru is o c fine q, ap bound is)
       go Fifo is o c fine =
           omega (
@@ -69,5 +69,5 @@ module _ (e : Case) (s : Sound e) (w : List ℕ) (walk : Walk e w) (kept : Keeps
             (e .block v % e .sets, mod-lt (e .block v) (some-set e s), refl, says-is (lives-says e (e .block v % e .sets) (e .block v)) (eqb-false _ _ (not-true _ h), refl)))
             r,
         paid-none r,
-        sum-le (λ q. paid (λ v. lives e q (e .block v)) r) (setBound e) (e .sets) (λ q l. set-bounded P is o c fine q l),
+        sum-le (λ q. paid (inSet e q) r) (setBound e) (e .sets) (λ q l. set-bounded P is o c fine q l),
       )

@@ -15,7 +15,7 @@ use Rattle.theory.proofs.SumLaws.{sum-le, cond-le}
 use Rattle.theory.proofs.Costs.{paid, paid-split}
 use Rattle.theory.proofs.Passing.{passing-le-counts}
 use Rattle.theory.proofs.Law.{Machine, Fair}
-use Rattle.theory.proofs.Moves.{Held, misses, misses-le, covers-says}
+use Rattle.theory.proofs.Moves.{inSet, Held, misses, misses-le, covers-says}
 
 and-true : (a b : Bool) → (a && b) ≡ true → (a ≡ true) × (b ≡ true)
 and-true true b h = (refl, h)
@@ -35,13 +35,13 @@ covered e test q v h k =
 pub set-sum :
     (e : Case) → Sound e → (w : List ℕ) → Walk e w → KeepsLimits e w → (M : Machine) → Fair M → (test : Fact → Bool) (each : Fact → ℕ) (q : ℕ) (c : Held e M)
     → ((i : ℕ) → i < e .facts → test (e .fact i) ≡ true → paid (covers e (e .fact i)) (misses e M w c) ≤ each (e .fact i))
-    → paid (λ v. lives e q (e .block v)) (misses e M w c) ≤ sumOf e test each q
+    → paid (inSet e q) (misses e M w c) ≤ sumOf e test each q
 unfolding sumOf
 set-sum e s w walk kept M fair test each q c h =
     let on : ℕ → Bool = λ i. lives e q (e .fact i .block) && test (e .fact i) in
     omega (
       arith,
-      paid-split (λ v. lives e q (e .block v)) (uncovered e test q) on (λ i. covers e (e .fact i)) (e .facts) (covered e test q) (misses e M w c),
+      paid-split (inSet e q) (uncovered e test q) on (λ i. covers e (e .fact i)) (e .facts) (covered e test q) (misses e M w c),
       sum-le
           (λ i. cond (on i) (paid (covers e (e .fact i)) (misses e M w c)) 0)
           (λ i. cond (on i) (each (e .fact i)) 0)

@@ -36,7 +36,8 @@ module _ (e : Case) (M : Machine) (t : Fact) where
   abbrev pub since : Bool → ℕ → Bool
   since known v = inside scope v && (known || eqb (e .block v) (t .block))
 
-  -- σ has b's set before each visit of w. After b was fetched in a stay the visits take the set from state to state; where nothing is known since b, any legal state may follow.
+  -- σ has b's set before each visit of w. Once b was fetched in a stay, the visits take the set from state to state;
+  -- where nothing is known since b, any legal state may follow.
   abbrev pub Taken : Bool → List ℕ → (ℕ → M .State) → Type 0
   Taken known [] σ = Unit {0}
   Taken known (v ∷ w) σ = M .Legal (σ 0) × (since known v ≡ true → σ 1 ≡ moved e M q v (σ 0)) × Taken (since known v) w (λ i. σ (suc i))
@@ -47,7 +48,8 @@ module _ (e : Case) (M : Machine) (t : Fact) where
   missed (v ∷ w) σ = cond (covers e t v) (M .miss (t .block) (σ 0)) 0 + missed w (λ i. σ (suc i))
 
   module _ (real : t .block ≢ Machines.none) (rows : SoundEvidence e t) (c a d : ℕ) (L : Law M (t .block) (t .limit - 1) c a d) where
-    -- After the visit p: b was not fetched in this stay, and where p is in the scope its first fetch is paid; or it was, and the row of each node that may be next says what is known.
+    -- After the visit p: b was not fetched in this stay, and where p is in the scope its first fetch is paid;
+    -- or it was, and the row of each node that may be next says what is known.
     abbrev Mode : Bool → Option ℕ → ℕ → ℕ → M .State → Type 0
     Mode false p x m s = outside scope p ≡ false → 1 ≤ x
     Mode true p x m s = (v : ℕ) → Step e p v → In scope v → Known e M t c a d L m (rowOf e t v) s

@@ -21,7 +21,9 @@ cond-le true h = h refl
 cond-le false h = omega arith
 
 -- the terms that pass a test
-pub sum-add : (on : ℕ → Bool) (f g : ℕ → ℕ) (n : ℕ) → sumTo (λ j. cond (on j) (f j + g j) 0) n ≡ sumTo (λ j. cond (on j) (f j) 0) n + sumTo (λ j. cond (on j) (g j) 0) n
+pub sum-add :
+    (on : ℕ → Bool) (f g : ℕ → ℕ) (n : ℕ)
+    → sumTo (λ j. cond (on j) (f j + g j) 0) n ≡ sumTo (λ j. cond (on j) (f j) 0) n + sumTo (λ j. cond (on j) (g j) 0) n
 unfolding sumTo
 sum-add on f g zero = refl
 sum-add on f g (suc n) = omega (arith, sum-add on f g n, one (on n))
