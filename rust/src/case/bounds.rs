@@ -1,0 +1,96 @@
+//! "The bounds" of facts, sets and the whole, in numbers of 128 bits.
+
+use super::{Fact, Graph, Rules, Stakes};
+use crate::machine::{Geometry, Policy};
+use std::collections::BTreeMap;
+
+#[derive(Clone, Debug, PartialEq)]
+pub struct Bounds {
+    pub total: u128,
+    pub sets: Vec<u128>,
+    pub facts: Vec<u128>,
+}
+
+/// A node that fetches, and what is known of its fetches.
+struct Fetcher {
+    set: usize,
+    count: u128,
+    /// The fact that covers it: the order of facts (rule 13) leaves at most one.
+    fact: Option<usize>,
+}
+
+/// A fact with its charge.
+struct Charge {
+    set: usize,
+    limit: u128,
+    entries: u128,
+    bound: u128,
+}
+
+pub struct Ledger<'a> {
+    rules: &'a dyn Rules,
+    geometry: Geometry,
+    fetchers: Vec<Fetcher>,
+    charges: Vec<Charge>,
+}
+
+impl<'a> Ledger<'a> {
+    pub fn new(geometry: Geometry, graph: &Graph, facts: &[Fact], rules: &'a dyn Rules) -> Ledger<'a> {
+        let mut cover = BTreeMap::new();
+        for (i, fact) in facts.iter().enumerate() {
+            cover.extend(graph.fetchers(fact.scope, fact.block).map(|node| (node, i)));
+        }
+        let fetching = graph.blocks.iter().enumerate().filter_map(|(node, block)| Some((node, (*block)?)));
+        let fetchers = fetching.map(|(node, block)| Fetcher {
+            set: geometry.set_of(block),
+            count: graph.count(node).expect("rule 10 holds"),
+            fact: cover.get(&node).copied(),
+        });
+        let mut ledger = Ledger { rules, geometry, fetchers: fetchers.collect(), charges: Vec::new() };
+        ledger.charges = facts.iter().enumerate().map(|(i, fact)| ledger.charge(i, fact, graph)).collect();
+        ledger
+    }
+
+    /// "For a fact: E is its entries, N the sum of counts of its nodes that fetch b."
+    fn charge(&self, i: usize, fact: &Fact, graph: &Graph) -> Charge {
+        let entries = self.rules.entries(graph, fact.scope);
+        let covered = self.fetchers.iter().filter(|fetcher| fetcher.fact == Some(i));
+        let stakes = Stakes {
+            policy: self.geometry.shape.policy,
+            ways: self.geometry.shape.ways as u128,
+            limit: fact.limit as u128,
+            entries,
+            fetches: covered.map(|fetcher| fetcher.count).sum(),
+        };
+        let bound = self.rules.fact_bound(stakes);
+        Charge { set: self.geometry.set_of(fact.block), limit: stakes.limit, entries, bound }
+    }
+
+    /// The price of the set's facts with limit at most `limit`, plus the counts of its fetching nodes that none of these
+    /// covers: A with their bounds (then every fact takes part, and what is left is "uncovered"), M(l) with their entries.
+    fn sum(&self, set: usize, limit: u128, price: fn(&Charge) -> u128) -> u128 {
+        let counts_in = |charge: &Charge| charge.limit <= limit;
+        let facts = self.charges.iter().filter(|charge| charge.set == set && counts_in(charge)).map(price);
+        let covered = |fetcher: &Fetcher| fetcher.fact.is_some_and(|i| counts_in(&self.charges[i]));
+        let left = self.fetchers.iter().filter(|fetcher| fetcher.set == set && !covered(fetcher));
+        facts.sum::<u128>() + left.map(|fetcher| fetcher.count).sum::<u128>()
+    }
+
+    /// "Set bound: for LRU and NMRU, A. For FIFO, the least of A and, for each l from 1 to k, floor(k·M(l)/(k-l+1))."
+    fn set_bound(&self, set: usize) -> u128 {
+        let ways = self.geometry.shape.ways as u128;
+        let all = self.sum(set, ways, |charge| charge.bound);
+        if self.geometry.shape.policy != Policy::Fifo {
+            return all;
+        }
+        let lru_misses = |limit| self.sum(set, limit, |charge| charge.entries);
+        let floors = (1..=ways).map(|limit| self.rules.floor(ways, limit, lru_misses(limit)));
+        floors.fold(all, u128::min)
+    }
+
+    /// "Total: the sum over sets."
+    pub fn bounds(&self) -> Bounds {
+        let sets: Vec<u128> = (0..self.geometry.sets.into()).map(|set| self.set_bound(set)).collect();
+        Bounds { total: sets.iter().sum(), sets, facts: self.charges.iter().map(|charge| charge.bound).collect() }
+    }
+}

@@ -1,0 +1,146 @@
+//! "The graph and its walks": nodes, edges and loops, and for each node the set of the loops around it.
+
+use super::draft::{Lists, LoopRecord};
+use super::WHOLE_GRAPH;
+use crate::machine::block_or_none;
+use std::collections::{BTreeMap, BTreeSet};
+use std::ops::RangeInclusive;
+
+/// "A loop is a range of nodes, first to last, with a bound B."
+#[derive(Clone, Copy, Debug)]
+pub struct Loop {
+    pub first: usize,
+    pub last: usize,
+    pub bound: u128,
+}
+
+impl Loop {
+    fn read(record: &LoopRecord) -> Loop {
+        Loop { first: record.first.into(), last: record.last.into(), bound: record.bound.into() }
+    }
+
+    /// "Its first node is its header."
+    pub fn header(&self) -> usize {
+        self.first
+    }
+
+    pub fn nodes(&self) -> RangeInclusive<usize> {
+        self.first..=self.last
+    }
+}
+
+/// "a scope (a loop, or the whole graph with one entry)"
+#[derive(Clone, Copy, Debug, PartialEq)]
+pub enum Scope {
+    Whole,
+    Loop(usize),
+}
+
+impl Scope {
+    /// The scope as the file writes it.
+    pub fn number(self) -> u16 {
+        match self {
+            Scope::Whole => WHOLE_GRAPH,
+            Scope::Loop(i) => i as u16,
+        }
+    }
+}
+
+pub struct Graph {
+    /// The block that each node fetches, if any.
+    pub blocks: Vec<Option<u16>>,
+    pub edges: Vec<(usize, usize)>,
+    pub loops: Vec<Loop>,
+    /// For each node, the loops that contain it.
+    around: Vec<BTreeSet<usize>>,
+    /// For each header, its loop.
+    by_header: BTreeMap<usize, usize>,
+}
+
+impl Graph {
+    /// Takes lists that keep rules 6 and 7.
+    pub fn new(lists: &Lists) -> Graph {
+        let loops: Vec<Loop> = lists.loops.iter().map(Loop::read).collect();
+        let mut around = vec![BTreeSet::new(); lists.nodes.len()];
+        for (i, l) in loops.iter().enumerate() {
+            for node in l.nodes() {
+                around[node].insert(i);
+            }
+        }
+        Graph {
+            blocks: lists.nodes.iter().map(|&number| block_or_none(number)).collect(),
+            edges: lists.edges.iter().map(|&(u, v)| (u.into(), v.into())).collect(),
+            by_header: loops.iter().enumerate().map(|(i, l)| (l.header(), i)).collect(),
+            loops,
+            around,
+        }
+    }
+
+    pub fn loops_around(&self, node: usize) -> &BTreeSet<usize> {
+        &self.around[node]
+    }
+
+    /// The loop that has this node as its header.
+    pub fn loop_of_header(&self, node: usize) -> Option<usize> {
+        self.by_header.get(&node).copied()
+    }
+
+    /// "An edge u to v with u < v may enter a loop only at its header."
+    pub fn enters_beside_header(&self, u: usize, v: usize) -> bool {
+        let mut entered = self.around[v].difference(&self.around[u]);
+        u < v && entered.any(|&i| self.loops[i].header() != v)
+    }
+
+    /// "With u >= v, v must be the header of a loop that contains u."
+    pub fn returns_to_no_header(&self, u: usize, v: usize) -> bool {
+        let returns_well = self.loop_of_header(v).is_some_and(|i| self.around[u].contains(&i));
+        u >= v && !returns_well
+    }
+
+    /// "Count of a node: the product of B over all loops that contain it." None where it passes the largest count.
+    pub fn count(&self, node: usize) -> Option<u128> {
+        let bounds = self.around[node].iter().map(|&i| self.loops[i].bound);
+        bounds
+            .into_iter()
+            .try_fold(1, |count, bound| Some(count * bound).filter(|&count| count <= super::LARGEST_COUNT))
+    }
+
+    /// The loops strictly around a scope, outermost first.
+    pub fn strictly_around(&self, scope: Scope) -> Vec<usize> {
+        match scope {
+            Scope::Whole => Vec::new(),
+            Scope::Loop(i) => self.around[self.loops[i].header()].iter().copied().filter(|&j| j != i).collect(),
+        }
+    }
+
+    pub fn scope(&self, number: u16) -> Option<Scope> {
+        match usize::from(number) {
+            _ if number == WHOLE_GRAPH => Some(Scope::Whole),
+            i => (i < self.loops.len()).then_some(Scope::Loop(i)),
+        }
+    }
+
+    /// All scopes that a fact may have: the whole graph and every loop.
+    pub fn scopes(&self) -> Vec<Scope> {
+        let loops = (0..self.loops.len()).map(Scope::Loop);
+        std::iter::once(Scope::Whole).chain(loops).collect()
+    }
+
+    pub fn scope_nodes(&self, scope: Scope) -> RangeInclusive<usize> {
+        match scope {
+            Scope::Whole => 0..=self.blocks.len() - 1,
+            Scope::Loop(i) => self.loops[i].nodes(),
+        }
+    }
+
+    /// The edges with both ends in the scope.
+    pub fn scope_edges(&self, scope: Scope) -> impl Iterator<Item = (usize, usize)> + '_ {
+        let nodes = self.scope_nodes(scope);
+        self.edges.iter().copied().filter(move |(u, v)| nodes.contains(u) && nodes.contains(v))
+    }
+
+    /// The nodes of the scope that fetch the block.
+    pub fn fetchers(&self, scope: Scope, block: u16) -> impl Iterator<Item = usize> + '_ {
+        self.scope_nodes(scope).filter(move |&node| self.blocks[node] == Some(block))
+    }
+}

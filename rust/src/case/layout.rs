@@ -1,0 +1,84 @@
+//! The trailer and where the sections lie: rules 1 to 5, all with place 0.
+
+use crate::bytes::{take, take_array};
+use crate::machine::Geometry;
+use crate::refusal::{demand, Refusal};
+
+/// The trailer's length.
+pub const TRAILER: usize = 32;
+
+/// "Nodes 1 to 1,024, edges 0 to 4,096, loops 0 to 64, facts 0 to 256": the least is `LEAST`.
+pub const LARGEST: [u16; 4] = [1_024, 4_096, 64, 256];
+const LEAST: [u16; 4] = [1, 0, 0, 0];
+
+/// Bytes of one node, edge and loop.
+const SIZES: [u64; 3] = [2, 4, 8];
+
+/// The sections' bytes. `rest` begins with the facts and ends at the trailer.
+pub struct Layout<'a> {
+    pub geometry: Geometry,
+    pub nodes: &'a [u8],
+    pub edges: &'a [u8],
+    pub loops: &'a [u8],
+    pub rest: &'a [u8],
+    pub facts: usize,
+}
+
+struct Trailer {
+    offsets: [u32; 4],
+    numbers: [u16; 4],
+    policy: u8,
+    ways: u8,
+    sets: u8,
+    version: u8,
+    letters: [u8; 4],
+}
+
+impl Trailer {
+    fn read(mut bytes: &[u8]) -> Option<Trailer> {
+        let from = &mut bytes;
+        let (offsets, numbers) = (take_array(from)?, take_array(from)?);
+        let [policy, ways, sets, version] = take_array(from)?;
+        Some(Trailer { offsets, numbers, policy, ways, sets, version, letters: take::<u32>(from)?.to_le_bytes() })
+    }
+
+    /// Rule 4, "a number of nodes, edges, loops or facts out of range".
+    fn numbers_in_range(&self) -> bool {
+        let ranges = LEAST.iter().zip(&LARGEST);
+        self.numbers.iter().zip(ranges).all(|(number, (least, largest))| (least..=largest).contains(&number))
+    }
+
+    /// Where nodes, edges, loops and facts begin when they follow each other "without gaps, from offset 0".
+    fn starts(&self) -> [u64; 4] {
+        let mut starts = [0; 4];
+        for (i, size) in SIZES.iter().enumerate() {
+            starts[i + 1] = starts[i] + size * u64::from(self.numbers[i]);
+        }
+        starts
+    }
+}
+
+/// The numbers of nodes, edges, loops and facts that a file claims to have.
+pub fn claimed_numbers(file: &[u8]) -> Option<[u16; 4]> {
+    Some(Trailer::read(file.last_chunk::<TRAILER>()?)?.numbers)
+}
+
+pub fn read_layout(file: &[u8]) -> Result<Layout<'_>, Refusal> {
+    let split = file.split_last_chunk::<TRAILER>();
+    let (body, trailer) =
+        split.and_then(|(body, last)| Some((body, Trailer::read(last)?))).ok_or(Refusal::new(1, 0))?;
+    demand(2, trailer.letters == *b"QMBT" && trailer.version == 1)?;
+    let geometry = Geometry::read(trailer.policy, trailer.ways, trailer.sets)?;
+    demand(4, trailer.numbers_in_range())?;
+    let starts = trailer.starts();
+    demand(5, trailer.offsets.map(u64::from) == starts && starts[3] <= body.len() as u64)?;
+    let [_, edges, loops, facts] = starts.map(|start| start as usize);
+    Ok(Layout {
+        geometry,
+        nodes: &body[..edges],
+        edges: &body[edges..loops],
+        loops: &body[loops..facts],
+        rest: &body[facts..],
+        facts: trailer.numbers[3].into(),
+    })
+}

@@ -1,0 +1,29 @@
+//! Case files: their lists, the rules that they keep or break, and the bounds that they earn.
+
+mod bounds;
+mod draft;
+mod facts;
+mod graph;
+mod graph_rules;
+mod layout;
+mod rows;
+mod rules;
+mod verdict;
+
+pub use bounds::Bounds;
+pub use draft::{Draft, FactRecord, Lists, LoopRecord};
+pub use facts::Fact;
+pub use graph::{Graph, Loop, Scope};
+pub use layout::{claimed_numbers, LARGEST, TRAILER};
+pub use rows::{Row, RowRecord};
+pub use rules::{Paper, Rules, Stakes};
+pub use verdict::{check, judge, Case, NUMBERS};
+
+/// "B from 1 to 1,000,000".
+pub const LARGEST_BOUND: u32 = 1_000_000;
+
+/// "a node's count to 4,294,967,295".
+pub const LARGEST_COUNT: u128 = 4_294_967_295;
+
+/// "16-bit loop number or 65,535 for the whole graph".
+pub const WHOLE_GRAPH: u16 = 65_535;

@@ -1,0 +1,54 @@
+//! The paper's formulas, one method each, so that a wrong one can be put in the place of a single right one and be
+//! seen to fail.
+
+use super::{Graph, Scope};
+use crate::machine::Policy;
+use std::collections::BTreeSet;
+
+/// What a fact's bound depends on: "E is its entries, N the sum of counts of its nodes that fetch b".
+#[derive(Clone, Copy)]
+pub struct Stakes {
+    pub policy: Policy,
+    pub ways: u128,
+    pub limit: u128,
+    pub entries: u128,
+    pub fetches: u128,
+}
+
+pub trait Rules {
+    /// "Entries of a loop: the product over the loops strictly around it. Empty products are 1."
+    fn entries(&self, graph: &Graph, scope: Scope) -> u128 {
+        graph.strictly_around(scope).iter().map(|&i| graph.loops[i].bound).product()
+    }
+
+    /// "g = ceil(k/(l-1))"
+    fn group(&self, ways: u128, limit: u128) -> u128 {
+        ways.div_ceil(limit - 1)
+    }
+
+    /// "bound of a fact"
+    fn fact_bound(&self, stakes: Stakes) -> u128 {
+        let Stakes { policy, ways, limit, entries, fetches } = stakes;
+        match policy {
+            Policy::Lru => entries,
+            Policy::Fifo | Policy::Nmru if limit == 1 => entries,
+            Policy::Fifo => entries + (fetches - entries) / self.group(ways, limit),
+            Policy::Nmru => fetches.min(limit * entries),
+        }
+    }
+
+    /// "floor(k·M(l)/(k-l+1))"
+    fn floor(&self, ways: u128, limit: u128, lru_misses: u128) -> u128 {
+        ways * lru_misses / (ways - limit + 1)
+    }
+
+    /// What row v must hold where row u is a set: "row u's blocks and also u's block where u fetches one of b's set".
+    fn passed_on(&self, held: &BTreeSet<u16>, own: Option<u16>) -> BTreeSet<u16> {
+        held.iter().copied().chain(own).collect()
+    }
+}
+
+/// The paper itself.
+pub struct Paper;
+
+impl Rules for Paper {}

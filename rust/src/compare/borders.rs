@@ -1,0 +1,102 @@
+//! Case files at the limits, each of which a wrong comparison sign would judge otherwise.
+
+use crate::case::{Draft, FactRecord, Lists, LoopRecord, Row, WHOLE_GRAPH};
+use std::collections::BTreeSet;
+
+/// Nodes that fetch 0, 1, 2, ... in turn, without edges.
+fn nodes(n: usize) -> Draft {
+    let lists = Lists { nodes: (0..n as u16).collect(), ..Lists::default() };
+    Draft { policy: 1, ways: 8, sets: 64, lists, facts: Vec::new() }
+}
+
+fn nested(bounds: &[u32]) -> Draft {
+    let mut draft = nodes(bounds.len());
+    let last = bounds.len() as u16 - 1;
+    draft.lists.loops = bounds.iter().zip(0..).map(|(&bound, first)| LoopRecord { first, last, bound }).collect();
+    draft
+}
+
+/// As many loops as asked for, of one node each.
+fn with_loops(mut draft: Draft, loops: u16) -> Draft {
+    draft.lists.loops = (0..loops).map(|node| LoopRecord { first: node, last: node, bound: 3 }).collect();
+    draft
+}
+
+/// As many edges as asked for, forward ones, from each node to the next ones.
+fn with_edges(mut draft: Draft, edges: usize) -> Draft {
+    let n = draft.lists.nodes.len() as u16;
+    let forward = (0..n).flat_map(|u| (u + 1..n.min(u + 9)).map(move |v| (u, v)));
+    draft.lists.edges = forward.take(edges).collect();
+    draft
+}
+
+/// Facts about as many blocks as asked for, over the whole graph: each is fetched once, with 9 up to there and 8 behind.
+fn with_facts(mut draft: Draft, facts: usize) -> Draft {
+    let n = draft.lists.nodes.len();
+    let row = |node, block| if node > block { Row::Many } else { Row::NotSince };
+    let fact = |block: usize| FactRecord {
+        scope: WHOLE_GRAPH,
+        block: block as u16,
+        limit: 1 + (block % 8) as u16,
+        rows: (0..n).map(|node| row(node, block).record()).collect(),
+    };
+    draft.facts = (0..facts).map(fact).collect();
+    draft
+}
+
+/// A loop of a block and no other, where nothing gathers and l = 1 suffices.
+fn alone(policy: u8, bound: u32) -> Draft {
+    let row = Row::Blocks(BTreeSet::new()).record();
+    Draft {
+        policy,
+        ways: 2,
+        sets: 1,
+        lists: Lists { nodes: vec![7], edges: vec![(0, 0)], loops: vec![LoopRecord { first: 0, last: 0, bound }] },
+        facts: vec![FactRecord { scope: 0, block: 7, limit: 1, rows: vec![row] }],
+    }
+}
+
+/// As many nodes as there may be, all but the first with the largest count: the largest sums.
+fn heavy(policy: u8) -> Draft {
+    let mut draft = Draft { policy, sets: 1, ..nodes(1_024) };
+    let outer = LoopRecord { first: 0, last: 1_023, bound: 65_535 };
+    draft.lists.loops = vec![outer, LoopRecord { first: 1, bound: 65_537, ..outer }];
+    draft
+}
+
+/// A loop that is entered as often as a loop can be, all of whose nodes fetch the same block: the largest fact bounds.
+fn heavy_fact(policy: u8, limit: u16) -> Draft {
+    let mut draft = heavy(policy);
+    draft.lists.nodes = vec![5; 1_024];
+    draft.lists.loops.push(LoopRecord { first: 2, last: 1_023, bound: 1 });
+    draft.facts = vec![FactRecord { scope: 2, block: 5, limit, rows: vec![Row::NotSince.record(); 1_022] }];
+    draft
+}
+
+pub fn files() -> Vec<Vec<u8>> {
+    let mut drafts = vec![
+        nodes(1),
+        nodes(0),
+        nodes(1_024),
+        nodes(1_025),
+        with_edges(nodes(1_024), 4_096),
+        with_edges(nodes(1_024), 4_097),
+        nested(&[2, 1_000_000]),
+        nested(&[2, 1_000_001]),
+        nested(&[1, 0]),
+        // 65,535 times 65,537 is 4,294,967,295, the largest count.
+        nested(&[65_535, 65_537]),
+        nested(&[65_536, 65_536]),
+        nested(&[1_000_000, 1_000_000]),
+        nested(&[1_000_000; 64]),
+        nested(&[1; 64]),
+        nested(&[1; 65]),
+        with_facts(nodes(300), 256),
+        with_facts(nodes(300), 257),
+        // The largest file that can be accepted.
+        with_facts(with_loops(with_edges(nodes(1_024), 4_096), 64), 256),
+    ];
+    drafts.extend((0..3).flat_map(|policy| [1, 10, 1_000_000].map(|bound| alone(policy, bound))));
+    drafts.extend((0..3).flat_map(|policy| [heavy(policy), heavy_fact(policy, 2), heavy_fact(policy, 8)]));
+    drafts.iter().map(Draft::write).collect()
+}

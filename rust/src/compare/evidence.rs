@@ -1,0 +1,146 @@
+//! Evidence exists exactly when it should: on small graphs, for each block, scope and limit.
+
+use super::gathering::{gather, Gathered};
+use super::{agree, Settings};
+use crate::case::{Draft, FactRecord, Graph, Row, Scope, NUMBERS};
+use crate::generate::cases::{sound, Plan};
+use crate::machine::Geometry;
+use crate::pipe::{Pipe, Request};
+use crate::random::Random;
+use crate::refusal::Refusal;
+use crate::show;
+use std::collections::{BTreeMap, BTreeSet};
+
+/// How many graphs go into one conversation.
+const TOGETHER: usize = 40;
+
+/// "A fact names a scope, a block b and an age limit l."
+type Named = (Scope, u16, usize);
+
+/// Why a file is tried, and so what `check` must say.
+#[derive(Clone, Copy, Debug, PartialEq, Eq, PartialOrd, Ord)]
+enum Trial {
+    /// Exact rows where few enough gather: accepted.
+    Exact,
+    /// Exact rows where too many gather at a node that fetches b: 18.
+    TooMany,
+    /// Accepted rows with one made smaller: 17.
+    Shrunk,
+    /// Any rows at all where too many gather: refused.
+    Hopeless,
+}
+
+impl Trial {
+    fn met_by(self, refusal: Option<Refusal>) -> bool {
+        match self {
+            Trial::Exact => refusal.is_none(),
+            Trial::TooMany => refusal == Some(Refusal::new(18, 0)),
+            Trial::Shrunk => refusal == Some(Refusal::new(17, 0)),
+            Trial::Hopeless => refusal.is_some_and(|refusal| (16..=18).contains(&refusal.number)),
+        }
+    }
+}
+
+pub fn run(pipe: &Pipe, settings: &Settings) -> Result<(), String> {
+    let mut random = Random::for_part(settings.seed, "evidence");
+    let mut counts = BTreeMap::new();
+    let mut left = settings.graphs;
+    while left > 0 {
+        let graphs = left.min(TOGETHER);
+        let trials: Vec<(Trial, Draft)> = (0..graphs).flat_map(|_| trials(&mut random)).collect();
+        try_all(pipe, &trials, &mut counts)?;
+        left -= graphs;
+    }
+    println!("evidence on {} graphs: {counts:?}", settings.graphs);
+    let all = [Trial::Exact, Trial::TooMany, Trial::Shrunk, Trial::Hopeless];
+    match all.iter().find(|trial| counts.get(trial).copied().unwrap_or(0) == 0) {
+        Some(trial) => Err(format!("no trial of kind {trial:?}")),
+        None => Ok(()),
+    }
+}
+
+fn try_all(pipe: &Pipe, trials: &[(Trial, Draft)], counts: &mut BTreeMap<Trial, u64>) -> Result<(), String> {
+    let requests: Vec<Request> =
+        trials.iter().map(|(_, draft)| Request::Check { file: draft.write(), numbers: vec![1; NUMBERS] }).collect();
+    let answers = agree(pipe, &requests)?;
+    for ((trial, draft), answer) in trials.iter().zip(answers) {
+        if !trial.met_by(answer.refusal) {
+            return Err(format!("{trial:?} gave {:?}\n{}", answer.refusal, show::file(&draft.write())));
+        }
+        *counts.entry(*trial).or_default() += 1;
+    }
+    Ok(())
+}
+
+/// A graph, each time with one fact for each block, scope and limit, and its rows in all the ways that are tried.
+fn trials(random: &mut Random) -> Vec<(Trial, Draft)> {
+    let plan = Plan { nodes: random.within(1..=9), rows: 0, ..Plan::small(random) };
+    let draft = sound(random, &plan, &crate::case::Paper);
+    let geometry = Geometry::read(draft.policy, draft.ways, draft.sets).expect("the plan's machine is in range");
+    let graph = Graph::new(&draft.lists);
+    let blocks: BTreeSet<u16> = graph.blocks.iter().flatten().copied().collect();
+    let mut trials = Vec::new();
+    for (scope, block) in graph.scopes().into_iter().flat_map(|scope| blocks.iter().map(move |&block| (scope, block))) {
+        if graph.fetchers(scope, block).next().is_none() {
+            continue;
+        }
+        let gathered = gather(geometry, &graph, scope, block);
+        for limit in 1..=geometry.shape.ways {
+            let fact = (scope, block, limit);
+            let rows = rows_to_try(random, &graph, fact, &gathered).into_iter();
+            trials.extend(rows.map(|(trial, rows)| (trial, with_fact(&draft, fact, &rows))));
+        }
+    }
+    trials
+}
+
+fn with_fact(draft: &Draft, (scope, block, limit): Named, rows: &[Row]) -> Draft {
+    let rows = rows.iter().map(Row::record).collect();
+    Draft { facts: vec![FactRecord { scope: scope.number(), block, limit: limit as u16, rows }], ..draft.clone() }
+}
+
+/// The rows to try for one fact.
+fn rows_to_try(random: &mut Random, graph: &Graph, fact: Named, gathered: &Gathered) -> Vec<(Trial, Vec<Row>)> {
+    let (scope, block, limit) = fact;
+    let first = *graph.scope_nodes(scope).start();
+    let exact = gathered.rows(limit);
+    if gathered.small_enough(limit, graph.fetchers(scope, block).map(|node| node - first)) {
+        let smaller = (0..exact.len()).flat_map(|place| smaller_rows(gathered, limit, place));
+        let shrunk = smaller.map(|(place, row)| {
+            let mut rows = exact.clone();
+            rows[place] = row;
+            (Trial::Shrunk, rows)
+        });
+        return shrunk.chain([(Trial::Exact, exact.clone())]).collect();
+    }
+    let hopeless = (0..3).map(|_| {
+        let any = exact.iter().map(|row| any_row(random, row, limit)).collect();
+        (Trial::Hopeless, any)
+    });
+    hopeless.chain([(Trial::TooMany, exact.clone())]).collect()
+}
+
+/// Every way to make a row say less than what gathers there: one block fewer, too few blocks for "many", or 9.
+fn smaller_rows(gathered: &Gathered, limit: usize, place: usize) -> Vec<(usize, Row)> {
+    let Some(blocks) = &gathered.at[place] else { return Vec::new() };
+    let mut smaller = vec![Row::NotSince];
+    if blocks.len() >= limit {
+        smaller.push(Row::Blocks(blocks.iter().copied().take(limit - 1).collect()));
+        smaller.push(Row::Blocks(blocks.iter().rev().copied().take(limit - 1).collect()));
+    } else {
+        smaller.extend(
+            blocks.iter().map(|lost| Row::Blocks(blocks.iter().copied().filter(|block| block != lost).collect())),
+        );
+    }
+    smaller.into_iter().map(|row| (place, row)).collect()
+}
+
+/// A row of any kind, near the exact one.
+fn any_row(random: &mut Random, exact: &Row, limit: usize) -> Row {
+    match (random.below(4), exact) {
+        (0, _) => Row::NotSince,
+        (1, Row::Blocks(blocks)) => Row::Blocks(blocks.iter().copied().take(random.below(limit)).collect()),
+        (2, _) => Row::Blocks(BTreeSet::new()),
+        _ => exact.clone(),
+    }
+}

@@ -1,0 +1,70 @@
+//! Case files, sound and damaged: verdict, place, all 321 numbers and the untouched memory.
+
+use super::kinds::Kinds;
+use super::{borders, Comparison, Settings};
+use crate::case::{Paper, NUMBERS};
+use crate::generate::cases::{sound, Plan};
+use crate::generate::damage::{damage, scatter};
+use crate::pipe::{Pipe, Request};
+use crate::random::Random;
+
+/// How often each refusal must be seen.
+const AT_LEAST: u64 = 50;
+
+pub fn run(pipe: &Pipe, settings: &Settings) -> Result<(), String> {
+    let mut random = Random::for_part(settings.seed, "files");
+    let mut comparison = Comparison::new(pipe);
+    let mut kinds = Kinds::default();
+    for file in borders::files() {
+        comparison.add(check(&mut random, file, NUMBERS + 3))?;
+    }
+    for i in 0..settings.files {
+        let request = match i % 20 {
+            0..=8 => sound_file(&mut random, &mut kinds),
+            9 | 10 => scattered_file(&mut random),
+            _ => damaged_file(&mut random, 1 + (i / 20 % 20) as u8),
+        };
+        comparison.add(request)?;
+    }
+    comparison.flush()?;
+    kinds.report();
+    let tally = &comparison.tally;
+    println!("case files, {} and some at the limits, by refusal:\n{}", settings.files, tally.table(5));
+    tally.demand(5, 0..=20, AT_LEAST)
+}
+
+/// A lent list with noise in it.
+fn check(random: &mut Random, file: Vec<u8>, numbers: usize) -> Request {
+    Request::Check { file, numbers: random.noise(numbers, |number| number) }
+}
+
+fn sound_file(random: &mut Random, kinds: &mut Kinds) -> Request {
+    let plan = if random.below(400) == 0 { Plan::large(random) } else { Plan::any(random) };
+    let draft = sound(random, &plan, &Paper);
+    kinds.add(&draft);
+    let room = NUMBERS + random.pick(&[0, 0, 1, 7, 40]);
+    check(random, draft.write(), room)
+}
+
+fn scattered_file(random: &mut Random) -> Request {
+    let plan = Plan::any(random);
+    let mut file = sound(random, &plan, &Paper).write();
+    scatter(random, &mut file);
+    let room = NUMBERS + random.below(3);
+    check(random, file, room)
+}
+
+/// A fault, or two so that their order shows, in a file that has room for them at first, middle and last places.
+fn damaged_file(random: &mut Random, rule: u8) -> Request {
+    let plan = Plan::roomy(random);
+    let draft = (0..20)
+        .map(|_| sound(random, &plan, &Paper))
+        .find(|draft| draft.facts.len() > 3 && draft.lists.loops.len() > 2);
+    let draft = draft.unwrap_or_else(|| sound(random, &plan, &Paper));
+    let near = rule % 20 + 1;
+    let far = random.within(1..=20) as u8;
+    let other = random.pick(&[rule, rule, near, far]);
+    let rules = if other == rule { vec![rule] } else { vec![rule, other] };
+    let (file, numbers) = damage(random, &draft, &rules);
+    check(random, file, numbers)
+}

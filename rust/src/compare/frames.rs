@@ -1,0 +1,118 @@
+//! Frames that cannot be answered: "A frame that cannot be answered ends the conversation."
+
+use super::Settings;
+use crate::machine::SetState;
+use crate::pipe::{room, Answer, Ending, Pipe, Request};
+use crate::random::Random;
+use crate::second;
+use crate::show;
+
+const NO_OPERATION: u8 = 1;
+const CUT_SHORT: u8 = 2;
+const TOO_LARGE: u8 = 3;
+
+/// One small whole frame of each operation.
+fn small_frames() -> Vec<Request> {
+    vec![
+        Request::Step {
+            policy: 2,
+            ways: 4,
+            state: SetState { lines: [10, 11, 12, 13, 65_535, 65_535, 65_535, 65_535], bits: 9 },
+            block: 20,
+        },
+        Request::Block { address: 4_000, line_size: 32 },
+        Request::Set { block: 77, sets: 8 },
+        Request::Trace { policy: 1, ways: 2, sets: 1, blocks: vec![1, 2, 3], marks: vec![7; 4] },
+        Request::Check { file: vec![81, 77, 66, 84], numbers: vec![5] },
+    ]
+}
+
+pub fn run(pipe: &Pipe, settings: &Settings) -> Result<(), String> {
+    let mut random = Random::for_part(settings.seed, "frames");
+    let mut tried = [0; 4];
+    converse(pipe, &[], &[], &[])?;
+    for frame in small_frames() {
+        let whole = frame.encode();
+        for cut in 1..whole.len() {
+            tried[usize::from(CUT_SHORT)] += 1;
+            converse(pipe, &before(&mut random), &whole[..cut], &[CUT_SHORT])?;
+        }
+    }
+    for operation in [0, 6, 7, 127, 128, 255] {
+        // What follows would be a good frame, but "after it nothing more is read".
+        let mut bytes = vec![operation];
+        bytes.extend(small_frames()[1].encode());
+        tried[usize::from(NO_OPERATION)] += 1;
+        converse(pipe, &before(&mut random), &bytes, &[NO_OPERATION])?;
+    }
+    for (bytes, why) in too_large() {
+        tried[usize::from(TOO_LARGE)] += 1;
+        converse(pipe, &before(&mut random), &bytes, why)?;
+    }
+    println!(
+        "frames that end the conversation: {} name no operation, {} are cut short, {} are too large",
+        tried[1], tried[2], tried[3]
+    );
+    largest_frames(pipe)
+}
+
+/// Some frames that are answered before the bad one.
+fn before(random: &mut Random) -> Vec<Request> {
+    (0..random.below(4)).map(|_| random.pick(&small_frames())).collect()
+}
+
+/// Frames that are whole and too large; and headers alone that claim the most that can be claimed, which are cut short
+/// as well, so that either reason is right.
+fn too_large() -> Vec<(Vec<u8>, &'static [u8])> {
+    let trace = |accesses, marks| Request::Trace {
+        policy: 0,
+        ways: 1,
+        sets: 1,
+        blocks: vec![0; accesses],
+        marks: vec![0; marks],
+    };
+    let check = |file, numbers| Request::Check { file: vec![0; file], numbers: vec![0; numbers] };
+    let whole = [
+        trace(room::ACCESSES + 1, 0),
+        trace(0, room::MARKS + 1),
+        check(room::FILE + 1, 0),
+        check(0, room::NUMBERS + 1),
+    ];
+    let mut frames: Vec<(Vec<u8>, &[u8])> = whole.iter().map(|frame| (frame.encode(), &[TOO_LARGE][..])).collect();
+    for (head, lengths) in [(&[4, 0, 1, 1][..], [0xff; 8]), (&[5], [0xff; 8])] {
+        frames.push(([head, &lengths].concat(), &[CUT_SHORT, TOO_LARGE]));
+    }
+    frames
+}
+
+/// Frames that are just not too large are answered.
+fn largest_frames(pipe: &Pipe) -> Result<(), String> {
+    let largest = [
+        Request::Trace { policy: 0, ways: 1, sets: 1, blocks: vec![3; room::ACCESSES], marks: vec![2; room::MARKS] },
+        Request::Check { file: vec![7; room::FILE], numbers: vec![7; room::NUMBERS] },
+        Request::Trace { policy: 0, ways: 1, sets: 1, blocks: Vec::new(), marks: Vec::new() },
+        Request::Check { file: Vec::new(), numbers: Vec::new() },
+    ];
+    super::agree(pipe, &largest)?;
+    println!("the largest and the smallest frames are answered");
+    Ok(())
+}
+
+/// Sends good frames and then other bytes. The good frames must be answered, and then the conversation must end for one
+/// of the given reasons; where none is given it ends with the answers.
+fn converse(pipe: &Pipe, good: &[Request], bad: &[u8], why: &[u8]) -> Result<(), String> {
+    let frames = good.iter().flat_map(Request::encode);
+    let said = pipe.converse(frames.chain(bad.iter().copied()).collect())?;
+    let mut rest = &said.bytes[..];
+    let answered = good.iter().all(|request| Answer::take(&mut rest, request) == Some(second::answer(request)));
+    let ending = Ending::take(&mut rest);
+    let ends_well = match ending {
+        Some(ending) => why.contains(&ending.why) && ending.answered == good.len() as u64,
+        None => why.is_empty(),
+    };
+    if answered && ends_well && rest.is_empty() {
+        return Ok(());
+    }
+    let expected = format!("{} answers and an end for a reason of {why:?} were due", good.len());
+    Err(format!("{expected}; after {good:?}\ncame\n{}the reply was\n{}", show::hex(bad), show::hex(&said.bytes)))
+}

@@ -1,0 +1,109 @@
+//! Faults of edges, loops and counts: rules 6 to 10.
+
+use super::Spot;
+use crate::case::{Graph, Lists, LoopRecord};
+use crate::random::Random;
+
+/// The lists keep rules 6 and 7, unless the fault is to be one of these.
+pub fn damage(random: &mut Random, lists: &mut Lists, rule: u8, spot: Spot) {
+    match rule {
+        6 => spoil_edge(random, lists, spot),
+        7 => spoil_loop(random, lists, spot),
+        8 => add_edge(random, lists, spot, |graph, u, v| graph.enters_beside_header(u, v)),
+        9 => add_edge(random, lists, spot, |graph, u, v| graph.returns_to_no_header(u, v)),
+        _ => swell(random, lists, spot),
+    }
+}
+
+/// Rule 6: an end that is no node, or an edge that does not come after the one before it.
+fn spoil_edge(random: &mut Random, lists: &mut Lists, spot: Spot) {
+    let n = lists.nodes.len() as u16;
+    if lists.edges.is_empty() {
+        lists.edges.push((0, n));
+    }
+    let i = spot.index(random, lists.edges.len());
+    match random.below(4) {
+        0 if i > 0 => lists.edges[i] = lists.edges[i - 1],
+        1 if i > 0 => lists.edges.swap(i - 1, i),
+        2 => lists.edges[i].0 = random.pick(&[n, n + 1, 65_535]),
+        _ => lists.edges[i].1 = random.pick(&[n, n + 1, 65_535]),
+    }
+}
+
+/// Rule 7, one of its five faults.
+fn spoil_loop(random: &mut Random, lists: &mut Lists, spot: Spot) {
+    let n = lists.nodes.len() as u16;
+    if lists.loops.is_empty() {
+        lists.loops.push(LoopRecord { first: 0, last: n - 1, bound: 1 });
+    }
+    let i = spot.index(random, lists.loops.len());
+    let first = lists.loops[i].first;
+    match random.below(5) {
+        0 if first > 0 => lists.loops[i].last = random.below(first.into()) as u16,
+        1 => lists.loops[i].last = random.pick(&[n, n + 1, 65_535]),
+        2 if i > 0 => lists.loops[i].first = random.within(0..=lists.loops[i - 1].first.into()) as u16,
+        3 => cross(random, lists, i),
+        _ => lists.loops[i].bound = random.pick(&[0, 1_000_001, u32::MAX]),
+    }
+}
+
+/// Makes loop i, or a new one behind it, end after a loop that it begins in.
+fn cross(random: &mut Random, lists: &mut Lists, i: usize) {
+    let n = lists.nodes.len() as u16;
+    let LoopRecord { first, last, .. } = lists.loops[i];
+    let outer = lists.loops[..i].iter().map(|outer| outer.last).filter(|&end| end >= first && end < n - 1).min();
+    match outer {
+        Some(end) => lists.loops[i].last = random.within((end + 1).into()..=(n - 1).into()) as u16,
+        None if first < last && last < n - 1 => {
+            let begin = random.within((first + 1).into()..=last.into()) as u16;
+            let at = lists.loops.iter().filter(|other| other.first < begin).count();
+            lists.loops.insert(at, LoopRecord { first: begin, last: last + 1, bound: 2 });
+        }
+        None => lists.loops[i].bound = 0,
+    }
+}
+
+/// Rules 8 and 9: puts an edge that is bad into its place in the order. With no edge before it, it is the first; with
+/// none behind it, the last.
+fn add_edge(random: &mut Random, lists: &mut Lists, spot: Spot, bad: fn(&Graph, usize, usize) -> bool) {
+    let graph = Graph::new(lists);
+    let n = lists.nodes.len();
+    let pairs = (0..n).flat_map(|u| (0..n).map(move |v| (u, v)));
+    let candidates: Vec<_> = pairs.filter(|&(u, v)| bad(&graph, u, v)).collect();
+    if candidates.is_empty() {
+        return;
+    }
+    let (u, v) = random.pick(&candidates);
+    let edge = (u as u16, v as u16);
+    match spot {
+        Spot::First => lists.edges.retain(|&other| other > edge),
+        Spot::Middle => {}
+        Spot::Last => lists.edges.retain(|&other| other < edge),
+    }
+    lists.edges.push(edge);
+    lists.edges.sort();
+}
+
+/// Rule 10: two loops whose bounds together are too large, the inner one from the chosen node on. A node is in two
+/// loops only if it is not the header of the outer one, so the first place is node 1.
+fn swell(random: &mut Random, lists: &mut Lists, spot: Spot) {
+    let n = lists.nodes.len();
+    if n < 2 || random.chance(20) {
+        lists.loops.iter_mut().for_each(|record| record.bound = 1_000_000);
+        return;
+    }
+    let first = 1 + spot.index(random, n - 1);
+    let last = random.within(first..=n - 1);
+    // 65,535 times 65,537 is the largest count, 4,294,967,295.
+    let (outer, inner) = random.pick(&[(65_536, 65_536), (4_295, 1_000_000), (1_000_000, 1_000_000), (65_535, 65_537)]);
+    lists.loops = vec![
+        LoopRecord { first: 0, last: n as u16 - 1, bound: outer },
+        LoopRecord { first: first as u16, last: last as u16, bound: inner },
+    ];
+    let graph = Graph::new(lists);
+    let ends = |edge: (u16, u16)| (usize::from(edge.0), usize::from(edge.1));
+    lists.edges.retain(|&edge| {
+        let (u, v) = ends(edge);
+        !graph.enters_beside_header(u, v) && !graph.returns_to_no_header(u, v)
+    });
+}

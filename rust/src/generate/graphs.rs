@@ -1,0 +1,86 @@
+//! Random graphs that keep rules 6 to 10, with loops nested as deep as asked.
+
+use super::cases::Plan;
+use crate::case::{Graph, Lists, LoopRecord, LARGEST, LARGEST_BOUND};
+use crate::machine::NONE;
+use crate::random::Random;
+
+/// How far ahead a forward edge may lead.
+const AHEAD: usize = 12;
+
+pub fn lists(random: &mut Random, plan: &Plan, blocks: &[u16]) -> Lists {
+    let n = plan.nodes;
+    let none = random.pick(&[0, 0, 15, 30]);
+    let favourite = random.pick(blocks);
+    let node = |random: &mut Random| match random.pick(blocks) {
+        _ if random.chance(none) => NONE,
+        _ if random.chance(plan.favourite) => favourite,
+        block => block,
+    };
+    let nodes = (0..n).map(|_| node(random)).collect();
+    let mut loops = Vec::new();
+    nest(random, (0, n - 1), plan.depth, plan, &mut loops);
+    loops.truncate(LARGEST[2].into());
+    let mut lists = Lists { nodes, edges: Vec::new(), loops };
+    temper(&mut lists);
+    lists.edges = edges(random, plan, &Graph::new(&lists));
+    lists
+}
+
+/// Loops within the range, outer ones first: an inner loop begins after its outer loop's header, so headers differ.
+fn nest(random: &mut Random, (first, last): (usize, usize), depth: usize, plan: &Plan, loops: &mut Vec<LoopRecord>) {
+    let mut node = first;
+    while node <= last && depth > 0 {
+        if random.chance(45) {
+            // The larger of two draws: what is nested deep needs room.
+            let end = node + random.below(last - node + 1).max(random.below(last - node + 1));
+            loops.push(LoopRecord { first: node as u16, last: end as u16, bound: bound(random, plan) });
+            nest(random, (node + 1, end), depth - 1, plan, loops);
+            node = end;
+        }
+        node += 1;
+    }
+}
+
+fn bound(random: &mut Random, plan: &Plan) -> u32 {
+    if plan.large_bounds && random.chance(8) {
+        let any = random.within(1..=LARGEST_BOUND as usize) as u32;
+        return random.pick(&[LARGEST_BOUND, any]);
+    }
+    random.within(1..=plan.bound) as u32
+}
+
+/// Takes bounds back to 1, inner ones first, until no count is too large.
+fn temper(lists: &mut Lists) {
+    for i in (0..lists.loops.len()).rev() {
+        let graph = Graph::new(lists);
+        if (0..lists.nodes.len()).all(|node| graph.count(node).is_some()) {
+            break;
+        }
+        lists.loops[i].bound = 1;
+    }
+}
+
+/// Edges that keep rules 8 and 9: mostly to the next node, some further ahead, and back to the headers around.
+fn edges(random: &mut Random, plan: &Plan, graph: &Graph) -> Vec<(u16, u16)> {
+    let n = graph.blocks.len();
+    let (next, back) = (random.pick(&[90, 100]), random.pick(&[5, 30, 60]));
+    let mut edges = Vec::new();
+    for u in 0..n {
+        for &i in graph.loops_around(u) {
+            let percent = if graph.loops[i].last == u { 90 } else { back };
+            if random.chance(percent) {
+                edges.push((u as u16, graph.loops[i].header() as u16));
+            }
+        }
+        for v in u + 1..n.min(u + AHEAD) {
+            let percent = if v == u + 1 { next } else { plan.skips };
+            if random.chance(percent) && !graph.enters_beside_header(u, v) {
+                edges.push((u as u16, v as u16));
+            }
+        }
+    }
+    edges.sort();
+    edges.truncate(LARGEST[1].into());
+    edges
+}

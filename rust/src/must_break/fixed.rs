@@ -1,0 +1,69 @@
+//! Small files, one for each wrong rule, kept so that everyone sees the same ones. The search finds others.
+
+use super::Break;
+use crate::case::{Draft, FactRecord, Lists, LoopRecord, Row, WHOLE_GRAPH};
+use crate::machine::SetState;
+
+/// The block that each file's fact is about.
+const B: u16 = 10;
+
+/// A break for each wrong rule, in the order of `wrong::ALL`.
+pub fn all() -> [Break; 6] {
+    [fifo_again(), nmru_thrice(), fifo_again(), entered_twice(), fifo_again(), own_block()]
+}
+
+fn blocks(list: &[u16]) -> Row {
+    Row::Blocks(list.iter().copied().collect())
+}
+
+/// Nodes one behind the other, without loops, and one fact over the whole graph; the walk goes through all of them.
+fn chain((policy, ways): (u8, u8), nodes: &[u16], limit: u16, rows: &[Row], start: SetState) -> Break {
+    let edges = (1..nodes.len() as u16).map(|node| (node - 1, node)).collect();
+    let lists = Lists { nodes: nodes.to_vec(), edges, loops: Vec::new() };
+    let rows = rows.iter().map(Row::record).collect();
+    let facts = vec![FactRecord { scope: WHOLE_GRAPH, block: B, limit, rows }];
+    Break {
+        walk: (0..nodes.len()).collect(),
+        draft: Draft { policy, ways, sets: 1, lists, facts },
+        contents: vec![start],
+    }
+}
+
+/// A hit does not move b, so two others push it out although b was fetched between them.
+fn fifo_again() -> Break {
+    let rows = [Row::NotSince, blocks(&[]), blocks(&[1]), blocks(&[]), blocks(&[2])];
+    chain((1, 2), &[B, 1, B, 2, B], 2, &rows, SetState::EMPTY)
+}
+
+/// b misses into line 0, then into line 1, then into line 2: each time the two others have flipped the bits.
+fn nmru_thrice() -> Break {
+    let rows = [
+        Row::NotSince,
+        blocks(&[]),
+        blocks(&[1]),
+        blocks(&[1, 2]),
+        blocks(&[]),
+        blocks(&[1]),
+        blocks(&[]),
+        blocks(&[2]),
+        blocks(&[2, 3]),
+    ];
+    chain((2, 3), &[B, 1, 2, B, 1, B, 2, 3, B], 3, &rows, SetState { bits: 2, ..SetState::EMPTY })
+}
+
+/// The inner loop is entered once for each time around the outer one, and each time b has been lost.
+fn entered_twice() -> Break {
+    let lists = Lists {
+        nodes: vec![1, B],
+        edges: vec![(0, 1), (1, 0), (1, 1)],
+        loops: vec![LoopRecord { first: 0, last: 1, bound: 2 }, LoopRecord { first: 1, last: 1, bound: 2 }],
+    };
+    let facts = vec![FactRecord { scope: 1, block: B, limit: 1, rows: vec![blocks(&[]).record()] }];
+    let draft = Draft { policy: 0, ways: 1, sets: 1, lists, facts };
+    Break { draft, walk: vec![0, 1, 1, 0, 1, 1], contents: vec![SetState::EMPTY] }
+}
+
+/// Node 1 fetches another block between the two fetches of b, and the last row does not say so.
+fn own_block() -> Break {
+    chain((0, 1), &[B, 1, B], 1, &[Row::NotSince, blocks(&[]), blocks(&[])], SetState::EMPTY)
+}

@@ -1,0 +1,70 @@
+//! Wrong bounds, each of which some small file, walk and start content exceed: what the comparison of walks cannot show,
+//! since a bound that is merely too large passes all of them.
+
+mod fixed;
+mod search;
+mod wrong;
+
+pub use search::search;
+
+use crate::case::{judge, Case, Draft, Paper, Rules, NUMBERS};
+use crate::compare::agree;
+use crate::machine::{legal, SetState};
+use crate::pipe::{Pipe, Request};
+use crate::show;
+use crate::walk::{is_walk, keeps_limits, Measure, Walker};
+
+/// A file, a walk and a start content on which misses exceed what a wrong rule gives.
+pub struct Break {
+    pub draft: Draft,
+    pub walk: Vec<usize>,
+    pub contents: Vec<SetState>,
+}
+
+/// One wrong rule, with its name.
+pub struct Wrong {
+    pub name: &'static str,
+    pub rules: &'static dyn Rules,
+}
+
+/// Shows the fixed breaks; with `pipe`, also that `check` gives the right numbers on them.
+pub fn run(pipe: Option<&Pipe>) -> Result<(), String> {
+    for (wrong, found) in wrong::ALL.iter().zip(fixed::all()) {
+        println!("{}", examine(wrong, &found).map_err(|fault| format!("{}: {fault}", wrong.name))?);
+        if let Some(pipe) = pipe {
+            agree(pipe, &[Request::Check { file: found.draft.write(), numbers: vec![0; NUMBERS] }])?;
+        }
+    }
+    Ok(())
+}
+
+/// The break's story, if it is one: the wrong rule accepts the file and the walk exceeds the wrong number; the paper
+/// refuses the file, or its own numbers are not exceeded.
+fn examine(wrong: &Wrong, found: &Break) -> Result<String, String> {
+    let file = found.draft.write();
+    let case =
+        judge(&file, wrong.rules).map_err(|refusal| format!("not even the wrong rule accepts it: {refusal:?}"))?;
+    let walker = walk(&case, found)?;
+    let Measure { of, misses, bound } = *walker.misses.exceeding(&case.bounds).last().ok_or("nothing is exceeded")?;
+    let verdict = match judge(&file, &Paper) {
+        Err(refusal) => format!("refused {} {}", refusal.number, refusal.place),
+        Ok(right) if walker.misses.exceeding(&right.bounds).is_empty() => of.among(&right.bounds).to_string(),
+        Ok(_) => return Err("the paper's own bounds are exceeded".to_string()),
+    };
+    let story = show::story(&found.draft, &found.contents, &walker);
+    let numbers = format!("misses {of}: {misses}; wrong bound: {bound}; by the paper: {verdict}");
+    Ok(format!("wrong: {}\n{story}  {numbers}\n  the file:\n{}", wrong.name, show::hex(&file)))
+}
+
+/// Goes along the walk, which must keep the limits, from the content, which must be legal.
+fn walk<'a>(case: &'a Case, found: &Break) -> Result<Walker<'a>, String> {
+    if !found.contents.iter().all(|state| legal(case.geometry.shape, state)) {
+        return Err("the start content is not legal".to_string());
+    }
+    if !is_walk(&case.graph, &found.walk) || !keeps_limits(&case.graph, &found.walk) {
+        return Err("no walk, or not within the limits".to_string());
+    }
+    let mut walker = Walker::new(case, &found.contents);
+    found.walk.iter().for_each(|&node| walker.visit(node));
+    Ok(walker)
+}

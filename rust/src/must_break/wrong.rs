@@ -1,0 +1,70 @@
+//! The wrong rules. Each differs from the paper in one formula.
+
+use super::Wrong;
+use crate::case::{Graph, Paper, Rules, Scope, Stakes};
+use crate::machine::Policy;
+use std::collections::BTreeSet;
+
+pub const ALL: [Wrong; 6] = [
+    Wrong { name: "LRU's fact bound E used for FIFO", rules: &LruForFifo },
+    Wrong { name: "(l-1) times E for NMRU with l >= 3", rules: &FactorTooSmall },
+    Wrong { name: "g+1 for g", rules: &GroupTooLarge },
+    Wrong { name: "entries without the outermost loop", rules: &OutermostForgotten },
+    Wrong { name: "k-l+2 in the set's floor", rules: &DivisorTooLarge },
+    Wrong { name: "the edge rule without u's own block", rules: &OwnBlockForgotten },
+];
+
+struct LruForFifo;
+
+impl Rules for LruForFifo {
+    fn fact_bound(&self, stakes: Stakes) -> u128 {
+        Paper.fact_bound(Stakes {
+            policy: if stakes.policy == Policy::Fifo { Policy::Lru } else { stakes.policy },
+            ..stakes
+        })
+    }
+}
+
+struct FactorTooSmall;
+
+impl Rules for FactorTooSmall {
+    fn fact_bound(&self, stakes: Stakes) -> u128 {
+        let factor = if stakes.limit >= 3 { stakes.limit - 1 } else { stakes.limit };
+        match stakes.policy {
+            Policy::Nmru => Paper.fact_bound(Stakes { limit: factor, ..stakes }),
+            _ => Paper.fact_bound(stakes),
+        }
+    }
+}
+
+struct GroupTooLarge;
+
+impl Rules for GroupTooLarge {
+    fn group(&self, ways: u128, limit: u128) -> u128 {
+        Paper.group(ways, limit) + 1
+    }
+}
+
+struct OutermostForgotten;
+
+impl Rules for OutermostForgotten {
+    fn entries(&self, graph: &Graph, scope: Scope) -> u128 {
+        graph.strictly_around(scope).iter().skip(1).map(|&i| graph.loops[i].bound).product()
+    }
+}
+
+struct DivisorTooLarge;
+
+impl Rules for DivisorTooLarge {
+    fn floor(&self, ways: u128, limit: u128, lru_misses: u128) -> u128 {
+        ways * lru_misses / (ways - limit + 2)
+    }
+}
+
+struct OwnBlockForgotten;
+
+impl Rules for OwnBlockForgotten {
+    fn passed_on(&self, held: &BTreeSet<u16>, _own: Option<u16>) -> BTreeSet<u16> {
+        held.clone()
+    }
+}

@@ -1,0 +1,74 @@
+//! The command line.
+
+use second::compare::Settings;
+use second::pipe::Pipe;
+
+pub const USAGE: &str = "\
+usage: compare [OPTION..] PART.. [-- PROGRAM [ARGUMENT..]]
+
+Compares the proved operations, over `pipe`, with the second simulator. Ends with 0 if all agree, with 1 at the first difference.
+
+parts:
+  caches      trace runs, single steps, addresses, set numbers
+  frames      frames that cannot be answered
+  files       case files, sound and damaged: verdicts, places and bounds
+  evidence    evidence exists exactly when it should
+  walks       no walk through an accepted file misses more than its bounds say
+  must-break  wrong bounds, each with a file, a walk and a content that exceed it (`pipe` may be left out)
+  search      looks for such files anew, with random walks (needs no `pipe`)
+  all         all of these but search
+
+options:
+  --pipe 'PROGRAM ARGUMENT..'  how to start `pipe`; or give it behind --
+  --seed N      (1)
+  --accesses N  accesses for each policy, number of ways and of sets (200000)
+  --steps N     single steps for each policy and number of ways (10000)
+  --files N     case files (20000)
+  --graphs N    small graphs whose evidence is tried (600)
+  --walked N    small files that are walked through, or searched (10000)
+";
+
+pub struct Options {
+    pub settings: Settings,
+    pub pipe: Option<Pipe>,
+    pub parts: Vec<String>,
+}
+
+pub fn read(arguments: impl Iterator<Item = String>) -> Result<Options, String> {
+    let settings = Settings { seed: 1, accesses: 200_000, steps: 10_000, files: 20_000, graphs: 600, walked: 10_000 };
+    let mut options = Options { settings, pipe: None, parts: Vec::new() };
+    let mut rest = arguments;
+    while let Some(word) = rest.next() {
+        match word.as_str() {
+            "--" => options.pipe = start(rest.by_ref().collect()),
+            "--pipe" => options.pipe = start(value(&mut rest, &word)?.split_whitespace().map(str::to_string).collect()),
+            _ if word.starts_with("--") => options.set(&word, &value(&mut rest, &word)?)?,
+            _ => options.parts.push(word),
+        }
+    }
+    Ok(options)
+}
+
+fn start(words: Vec<String>) -> Option<Pipe> {
+    (!words.is_empty()).then(|| Pipe::new(words))
+}
+
+fn value(rest: &mut impl Iterator<Item = String>, option: &str) -> Result<String, String> {
+    rest.next().ok_or(format!("{option} lacks its value"))
+}
+
+impl Options {
+    fn set(&mut self, option: &str, value: &str) -> Result<(), String> {
+        let number: usize = value.parse().map_err(|_| format!("{option} takes a number, not {value}"))?;
+        match option {
+            "--seed" => self.settings.seed = number as u64,
+            "--accesses" => self.settings.accesses = number,
+            "--steps" => self.settings.steps = number,
+            "--files" => self.settings.files = number,
+            "--graphs" => self.settings.graphs = number,
+            "--walked" => self.settings.walked = number,
+            _ => return Err(format!("no option {option}")),
+        }
+        Ok(())
+    }
+}

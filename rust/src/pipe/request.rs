@@ -1,0 +1,58 @@
+//! "A request is one byte that names the operation, the arguments, and the lent memory as it is handed in."
+
+use crate::bytes::{put_list, Little};
+use crate::machine::SetState;
+
+#[derive(Clone, Debug)]
+pub enum Request {
+    Step { policy: u8, ways: u8, state: SetState, block: u16 },
+    Block { address: u32, line_size: u32 },
+    Set { block: u16, sets: u8 },
+    Trace { policy: u8, ways: u8, sets: u8, blocks: Vec<u16>, marks: Vec<u8> },
+    Check { file: Vec<u8>, numbers: Vec<u64> },
+}
+
+impl Request {
+    pub fn operation(&self) -> u8 {
+        match self {
+            Request::Step { .. } => 1,
+            Request::Block { .. } => 2,
+            Request::Set { .. } => 3,
+            Request::Trace { .. } => 4,
+            Request::Check { .. } => 5,
+        }
+    }
+
+    pub fn encode(&self) -> Vec<u8> {
+        let mut out = vec![self.operation()];
+        match self {
+            Request::Step { policy, ways, state, block } => {
+                put_list(&[*policy, *ways], &mut out);
+                put_list(&state.lines, &mut out);
+                state.bits.put(&mut out);
+                block.put(&mut out);
+            }
+            Request::Block { address, line_size } => put_list(&[*address, *line_size], &mut out),
+            Request::Set { block, sets } => {
+                block.put(&mut out);
+                sets.put(&mut out);
+            }
+            Request::Trace { policy, ways, sets, blocks, marks } => {
+                put_list(&[*policy, *ways, *sets], &mut out);
+                put_lengths(blocks.len(), marks.len(), &mut out);
+                put_list(blocks, &mut out);
+                out.extend_from_slice(marks);
+            }
+            Request::Check { file, numbers } => {
+                put_lengths(file.len(), numbers.len(), &mut out);
+                out.extend_from_slice(file);
+                put_list(numbers, &mut out);
+            }
+        }
+        out
+    }
+}
+
+fn put_lengths(first: usize, second: usize, out: &mut Vec<u8>) {
+    put_list(&[first, second].map(|length| u32::try_from(length).expect("a frame's length has 32 bits")), out);
+}

@@ -1,0 +1,42 @@
+//! The second simulator's answer to any request of `pipe`.
+
+use crate::case::{check, Paper};
+use crate::machine::{address, step, trace, Outcome};
+use crate::pipe::{Answer, Body, Request};
+use crate::refusal::Refusal;
+
+pub fn answer(request: &Request) -> Answer {
+    match request {
+        Request::Step { policy, ways, state, block } => {
+            let refused = Body::Step { outcome: 2, state: state.clone() };
+            let stepped = step::step(*policy, *ways, state, *block);
+            outcome(stepped, refused, |(hit_or_miss, state)| Body::Step {
+                outcome: u8::from(hit_or_miss == Outcome::Miss),
+                state,
+            })
+        }
+        Request::Block { address, line_size } => {
+            outcome(address::block_of(*address, *line_size), Body::Block(0), Body::Block)
+        }
+        Request::Set { block, sets } => outcome(address::set_of(*block, *sets), Body::Set(0), Body::Set),
+        Request::Trace { policy, ways, sets, blocks, marks } => {
+            let mut after = marks.clone();
+            let run = trace::trace_run(*policy, *ways, *sets, blocks, &mut after);
+            let refused = Body::Trace { misses: 0, marks: marks.clone() };
+            outcome(run, refused, |misses| Body::Trace { misses, marks: after })
+        }
+        Request::Check { file, numbers } => {
+            let mut after = numbers.clone();
+            let verdict = check(file, &mut after, &Paper);
+            outcome(verdict, Body::Check { numbers: numbers.clone() }, |_| Body::Check { numbers: after })
+        }
+    }
+}
+
+/// What follows the verdict, refused or not.
+fn outcome<T>(result: Result<T, Refusal>, refused: Body, accepted: impl FnOnce(T) -> Body) -> Answer {
+    match result {
+        Ok(value) => Answer { refusal: None, body: accepted(value) },
+        Err(refusal) => Answer { refusal: Some(refusal), body: refused },
+    }
+}
