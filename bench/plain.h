@@ -1,0 +1,9 @@
+/* The plain C versions of the hot operations. Same parameters, refusals and lent memory as their namesakes in include/bolgverk.h. */
+#pragma once
+#include <stddef.h>
+#include <stdint.h>
+
+uint8_t plain_trace_run(uint8_t policy, uint8_t ways, uint8_t sets, const uint16_t *blocks, size_t blocks_length, uint8_t *marks,
+                        size_t marks_length, uint64_t *misses, uint64_t *place);
+
+uint8_t plain_check(const uint8_t *file, size_t file_length, uint64_t *numbers, size_t numbers_length, uint64_t *place);

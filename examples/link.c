@@ -1,0 +1,21 @@
+/* Checks the case file on standard input and prints its listing, as the program `bounds` does. README.md says how to link it. */
+#include <bolgverk.h>
+#include <stdio.h>
+
+static uint8_t file[65536];
+
+int main(void)
+{
+    uint64_t numbers[BOLGVERK_NUMBERS] = {0}, place;
+    size_t length = fread(file, 1, sizeof file, stdin);
+    uint8_t refused = bolgverk_check(file, length, numbers, BOLGVERK_NUMBERS, &place);
+    if (refused)
+        return printf("refused %u %lu\n", refused, place) < 0;
+    unsigned sets = file[length - 6], facts = file[length - 10] + 256u * file[length - 9];
+    printf("total %lu\n", numbers[0]);
+    for (unsigned q = 0; q < sets; q++)
+        printf("set %u %lu\n", q, numbers[1 + q]);
+    for (unsigned i = 0; i < facts; i++)
+        printf("fact %u %lu\n", i, numbers[65 + i]);
+    return 0;
+}

@@ -1,0 +1,97 @@
+/* Bolgverk from C: the public operations of the static library libexports.a (x86-64 Linux).
+ *
+ * Every operation answers every input. It has no state: nothing is kept between two calls, and calls may run at the same time
+ * where they do not share memory that one of them writes. Each answer is proved; what a C caller must see to, since nothing checks it:
+ *   - no pointer is NULL or unaligned, not even where its length is 0;
+ *   - a pointer with a length has that many elements behind it, each of them set;
+ *   - memory that an operation writes overlaps nothing else that is passed to it, and nothing else touches it during the call.
+ *
+ * A refusal has a number and a place, as in the table at the end. A refused call writes no lent memory but *place.
+ * Policies: 0 LRU, 1 FIFO, 2 NMRU. Ways: 1 to 8 (NMRU 2 to 8). Sets: 1 to 64. Blocks: 0 to 65,534; 65,535 means none.
+ */
+#ifndef BOLGVERK_H
+#define BOLGVERK_H
+
+#include <stddef.h>
+#include <stdint.h>
+
+#ifdef __cplusplus
+extern "C" {
+#endif
+
+/* How many numbers an accepted case file has: the total, 64 set bounds, 256 fact bounds. */
+#define BOLGVERK_NUMBERS 321
+
+/* Checks a case file of any length and bounds its misses.
+ *   file, file_length        the file's bytes; only read
+ *   numbers, numbers_length  gets the 321 numbers, if the file is accepted: [0] the total, [1 + q] the bound of set q, [65 + i] the
+ *                            bound of fact i, 0 where there is no such set or fact; numbers past the 321st stay as they are
+ *   place                    gets the refusal's place, 0 if the file is accepted; always written
+ * Returns 0 if the file is accepted, else the refusal's number: 20 first, then 1 to 10, then 11 to 18 fact by fact, then 19. */
+uint8_t bolgverk_check(const uint8_t *file, size_t file_length, uint64_t *numbers, size_t numbers_length, uint64_t *place);
+
+/* Runs a trace of block accesses from empty sets.
+ *   policy, ways, sets       the cache
+ *   blocks, blocks_length    the accesses in order; only read
+ *   marks, marks_length      gets 1 for a miss and 0 for a hit, one byte an access, if nothing is refused; later bytes stay as they are
+ *   misses                   gets the number of misses, if nothing is refused
+ *   place                    gets the refusal's place, 0 if nothing is refused; always written
+ * Returns 0, or the refusal's number: 3, 20, 21, tested in this order. */
+uint8_t bolgverk_trace_run(uint8_t policy, uint8_t ways, uint8_t sets, const uint16_t *blocks, size_t blocks_length, uint8_t *marks,
+                           size_t marks_length, uint64_t *misses, uint64_t *place);
+
+#define BOLGVERK_HIT 0
+#define BOLGVERK_MISS 1
+
+/* One access to one set.
+ *   policy, ways             the cache; the block's set is not looked at
+ *   lines                    the set's eight lines, 65,535 for an empty one, those from `ways` on empty; changed in place
+ *   bits                     the set's bits: bit i of value 2^i is line i's, all 0 for LRU and FIFO; changed in place
+ *   block                    the block accessed
+ * Returns 0 for a hit, 1 for a miss, else the refusal's number: 3, 22, 21, tested in this order. Its place is 0, and a refused step
+ * leaves lines and bits as they were. */
+uint8_t bolgverk_step(uint8_t policy, uint8_t ways, uint16_t lines[8], uint8_t *bits, uint16_t block);
+
+/* The block that an address lies in: address / line_size, rounded down.
+ *   line_size                8, 16, 32, 64 or 128
+ *   block                    gets the block, if nothing is refused
+ * Returns 0, or the refusal's number: 23, 21, tested in this order. Its place is 0. */
+uint8_t bolgverk_block_of(uint32_t address, uint32_t line_size, uint16_t *block);
+
+/* The set that a block lives in: block mod sets.
+ *   set                      gets the set's number, if nothing is refused
+ * Returns 0, or the refusal's number: 3 where sets is not 1 to 64, 21 for block 65,535, tested in this order. Its place is 0. */
+uint8_t bolgverk_set_of(uint16_t block, uint8_t sets, uint8_t *set);
+
+/* The refusals: number, when it is given, what its place is. Each number has the least place where it holds.
+ *    1  the file has fewer than 32 bytes                                                                       0
+ *    2  the trailer's letters or version are wrong                                                             0
+ *    3  policy, ways or sets out of range                                                                      0
+ *    4  a number of nodes, edges, loops or facts out of range                                                  0
+ *    5  an offset is wrong, or the facts would start past the trailer                                          0
+ *    6  an edge's end is no node, or the edge does not come after the one before it                            the edge
+ *    7  a loop's first node above its last, its last no node, its bound out of range, its first node not
+ *       above that of the loop before it, or it crosses an earlier loop                                        the loop
+ *    8  a forward edge enters a loop beside its header                                                         the edge
+ *    9  a backward edge does not lead to a header of a loop around its source                                  the edge
+ *   10  a node's count is above 4,294,967,295                                                                  the node
+ *   11  fewer than 6 bytes are left for a fact                                                                 the fact
+ *   12  a fact's loop number, block or age limit out of range                                                  the fact
+ *   13  a fact's block is below the previous fact's, or equal and its scope starts at or before the previous
+ *       scope's last node                                                                                      the fact
+ *   14  no node of a fact's scope fetches its block                                                            the fact
+ *   15  a fact's rows are cut short                                                                            the fact
+ *   16  a row is not sound                                                                                     the fact
+ *   17  two rows break the rule of an edge between their nodes                                                 the fact
+ *   18  a node that fetches the fact's block has row 8                                                         the fact
+ *   19  bytes are left between the last fact and the trailer                                                   0
+ *   20  the lent list is too short: 321 numbers, or one byte an access                                         0
+ *   21  block 65,535 is accessed, or an address's block is above 65,534                                        the access, else 0
+ *   22  the set's state is not legal                                                                           0
+ *   23  the line size is none of 8, 16, 32, 64, 128                                                            0
+ */
+
+#ifdef __cplusplus
+}
+#endif
+#endif
