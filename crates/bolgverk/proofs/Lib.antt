@@ -1,0 +1,4 @@
+pub mod Determined
+pub mod Kept
+pub mod Judging
+pub mod Checking

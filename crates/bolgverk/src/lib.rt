@@ -1,0 +1,46 @@
+// The public face of Bolgverk: every public operation, each thin, with its whole promise. None has a `requires`.
+ghost use mathlib.Core.Path.{_≡_};
+ghost use Prim.Native.Nat.{_≤_};
+ghost use lib.ListN.{length};
+ghost use Rattle.layout.specs.Laid.{Laid};
+ghost use Rattle.bolgverk.specs.Promises.{CheckPromise};
+ghost use Rattle.bolgverk.specs.Judged.{Judged};
+ghost use Rattle.paper.specs.Machines.{inRange};
+ghost use mathlib.Core.Bool.{true};
+use layout::Layout;
+use paper::Trailer;
+use paper::Verdict;
+
+// Rules 6 to 19 and the 321 numbers, for a file that passes rules 1 to 5.
+fn judge(file: &[u8], t: Trailer, bounds: &mut [u64]) -> Verdict
+    requires { ⌜ Laid (now file) t ⌝ }
+    requires { ⌜ inRange (t .policy) (t .ways) (t .sets) ≡ true ⌝ }
+    requires { ⌜ 321 ≤ length (now bounds) ⌝ }
+    ensures { λ r. ⌜ Judged (now (file .entry)) t (now (bounds .entry)) r (now (bounds .exit)) ⌝ }
+{
+    let mut counts: [u32; 1024] = [0; 1024];
+    let graph = graph::graph_rules(file, t, &mut counts);
+    if let Verdict::Refused(r) = graph {
+        return Verdict::Refused(r);
+    }
+    let facts = evidence::fact_rules(file, t);
+    if let Verdict::Refused(r) = facts {
+        return Verdict::Refused(r);
+    }
+    charge::charge(file, t, &counts, bounds);
+    Verdict::Accepted
+}
+
+// "The check tests 20 first, then 1 to 10 in order, each over the whole file; then for each fact in turn 11 to 18; then 19."
+pub fn check(file: &[u8], bounds: &mut [u64]) -> Verdict
+    ensures { λ r. ⌜ CheckPromise (now (file .entry)) (now (bounds .entry)) r (now (bounds .exit)) ⌝ }
+{
+    if bounds.len() < 321 {
+        return Verdict::Refused(paper::refuse(20, 0));
+    }
+    let read = layout::layout_of(file);
+    match read {
+        Layout::Read(t) => judge(file, t, bounds),
+        Layout::Refused(r) => Verdict::Refused(r),
+    }
+}

@@ -1,0 +1,99 @@
+-- The law of the loop that takes the least of A and the floors of a set. Assumes nothing.
+use Prim.Native.Nat.{ℕ, suc, _+_, _-_, _*_, _/_, _≤_, _<_, min}
+use native.Mathlib.Omega.{arith}
+use native.Mathlib.Numerals.{add-one}
+use mathlib.Core.Path.{_≡_, refl, sym, _∙_, ap, ap₂}
+use mathlib.Core.Logic.{_≢_}
+use mathlib.Core.List.{List}
+use borrow.Author.Tests.{eq-eqb, ne-eqb}
+use lib.ListN.{length, getD}
+use Rattle.paper.specs.declared.Trailer.{Trailer}
+use Rattle.paper.specs.Lists.{lowestTo}
+use Rattle.paper.specs.Cases.{Case}
+use Rattle.paper.specs.Bounds.{floorOf, A, M, floorAt, setBound}
+use Rattle.paper.specs.Files.{caseOf}
+use Rattle.paper.proofs.Meaning.{Sound}
+use Rattle.paper.proofs.Sums.{Lowest, lowest-start, lowest-more}
+use Rattle.layout.specs.Laid.{Laid}
+use Rattle.charge.specs.Tables.{placeOf, FactsAdded, NodesAdded}
+use Rattle.charge.proofs.Facts.{fact-head, entered-small, charged-small}
+use Rattle.charge.proofs.Nodes.{fetched-small, spent-small}
+use Rattle.charge.proofs.Sets.{A-is, M-start, M-more}
+
+-- the loop has come to j, with m = M(j) and x the least so far
+pub record Flooring (e : Case) (q a m x j : ℕ) : Type 0 where
+  pub lowest : Lowest (floorAt e q) a (e .ways) x j
+  pub sum : m ≡ M e j q
+  pub small : m ≤ 4398046510080 + 1099511627520 * j
+
+module _ (f : List ℕ) (t : Trailer) (laid : Laid f t) (sound : Sound (caseOf f t)) (entered charged fetched spent : List ℕ) (facts : FactsAdded (caseOf f t) (t .facts) entered charged) (nodes : NodesAdded (caseOf f t) (t .nodes) fetched spent) (q : ℕ) (hq : q < 64) where
+  sum-A : getD charged q 0 + getD spent (10 * q + 9) 0 ≡ A (caseOf f t) q
+  unfolding caseOf
+  sum-A = A-is (caseOf f t) (fact-head f t laid sound) (laid .ways-high) q entered charged fetched spent facts nodes hq
+
+  pub A-small : getD charged q 0 + getD spent (10 * q + 9) 0 ≤ 1131397464718080
+  A-small =
+      omega (
+        arith,
+        charged-small f t laid sound (t .facts) entered charged facts (omega arith) q (omega (arith, facts .sets)),
+        spent-small f t laid sound (t .nodes) fetched spent nodes (omega arith) (10 * q + 9) (omega (arith, nodes .limits)),
+      )
+
+  pub fifo-set :
+      (r : ℕ) → t .policy ≡ 1 → r ≡ lowestTo (floorAt (caseOf f t) q) (getD charged q 0 + getD spent (10 * q + 9) 0) (t .ways)
+      → r ≡ setBound (caseOf f t) q
+  unfolding caseOf setBound
+  fifo-set r h e = rw (eq-eqb (t .policy) 1 h) (e ∙ ap (λ x. lowestTo (floorAt (caseOf f t) q) x (t .ways)) sum-A)
+
+  pub other-set : t .policy ≢ 1 → getD charged q 0 + getD spent (10 * q + 9) 0 ≡ setBound (caseOf f t) q
+  unfolding caseOf setBound
+  other-set h = rw (ne-eqb (t .policy) 1 h) sum-A
+
+  pub flooring-start : (a : ℕ) → Flooring (caseOf f t) q a (getD fetched q 0) a 0
+  unfolding caseOf
+  flooring-start a =
+      record {
+        lowest = lowest-start (floorAt (caseOf f t) q) a (t .ways);
+        sum = M-start (caseOf f t) (fact-head f t laid sound) (laid .ways-high) q entered charged fetched spent facts nodes hq;
+        small = omega (arith, fetched-small f t laid sound (t .nodes) fetched spent nodes (omega arith) q (omega (arith, nodes .sets)));
+      }
+
+  module _ (a m x j : ℕ) (w : Flooring (caseOf f t) q a m x j) (h : j < t .ways) where
+    abbrev in-E : ℕ
+    in-E = getD entered (10 * q + j + 1) 0
+
+    abbrev out : ℕ
+    out = getD spent (10 * q + j + 1) 0
+
+    next-M : m + in-E ≡ M (caseOf f t) (suc j) q + out
+    unfolding caseOf
+    next-M =
+        let z : 10 * q + j + 1 ≡ placeOf q (suc j) = omega arith in
+        rw (z, w .sum)
+        (M-more (caseOf f t) (fact-head f t laid sound) (laid .ways-high) q entered charged fetched spent facts nodes hq j (omega (arith, laid .ways-high)))
+
+    -- nothing is taken that is not there
+    pub out-fits : out ≤ m + in-E
+    out-fits = omega (arith, next-M)
+
+    pub in-small : m + in-E ≤ 4398046510080 + 1099511627520 * (j + 1)
+    in-small =
+        omega (
+          arith,
+          w .small,
+          entered-small f t laid sound (t .facts) entered charged facts (omega arith) (10 * q + j + 1) (omega (arith, facts .limits, laid .ways-high)),
+        )
+
+    pub next-small : m + in-E - out ≤ 13194139530240
+    next-small = omega (arith, in-small, laid .ways-high)
+
+    pub flooring-more :
+        (n y r : ℕ) → n ≡ m + in-E - out → y ≡ floorOf (t .ways) (j + 1) n → r ≡ min x y → Flooring (caseOf f t) q a n r (j + 1)
+    unfolding caseOf floorAt
+    flooring-more n y r en ey er =
+        let eM : n ≡ M (caseOf f t) (suc j) q = omega (arith, next-M, en) in
+        record {
+          lowest = lowest-more (floorAt (caseOf f t) q) a (t .ways) x j y r (w .lowest) h (ey ∙ rw (add-one, eM) refl) er;
+          sum = rw add-one eM;
+          small = omega (arith, in-small, en);
+        }

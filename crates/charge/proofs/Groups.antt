@@ -1,0 +1,97 @@
+-- Amounts by set s and number x below 10: the sums of those of set q with x up to l, and past l, grow and shrink by the sum at one place of a table. Assumes nothing.
+use Prim.Native.Nat.{ℕ, zero, suc, _+_, _*_, _≤_, _<_}
+use native.Mathlib.Omega.{arith}
+use native.Mathlib.Decide.{ℕ-discrete, decLe}
+use mathlib.Core.Path.{_≡_, refl, sym, _∙_, ap}
+use mathlib.Core.Logic.{_≢_}
+use mathlib.Core.Bool.{Bool, true, false, cond, not, _&&_}
+use mathlib.Core.List.{List}
+use borrow.Author.Tests.{le-leb, lt-leb, eq-eqb, ne-eqb}
+use lib.Dec.{eqb, leb}
+use lib.ListN.{length, getD}
+use Rattle.paper.specs.Lists.{sumTo}
+use Rattle.charge.specs.Tables.{Tallied, placeOf}
+use Rattle.charge.proofs.Sums.{sum-same, sum-both, sum-none}
+
+-- a place tells the set and the number
+place-is : (s x q l : ℕ) → x < 10 → l < 10 → eqb (placeOf s x) (placeOf q l) ≡ (eqb s q && eqb x l)
+place-is s x q l hx hl =
+    elim (ℕ-discrete s q) [
+      | yes e ↦
+          rw (e, eq-eqb q q refl)
+          (elim (ℕ-discrete x l) [
+            | yes d ↦ rw d (eq-eqb (placeOf q l) (placeOf q l) refl ∙ sym (eq-eqb l l refl))
+            | no d ↦ ne-eqb (placeOf q x) (placeOf q l) (omega arith) ∙ sym (ne-eqb x l d)
+          ])
+      | no e ↦ rw (ne-eqb s q e) (ne-eqb (placeOf s x) (placeOf q l) (omega arith))
+    ]
+
+-- one more number: what it adds to those up to l, and takes from those past l
+one-more :
+    (b : Bool) (x l a : ℕ)
+    → (cond (b && leb x (suc l)) a 0 ≡ cond (b && leb x l) a 0 + cond (b && eqb x (suc l)) a 0)
+    × (cond (b && not (leb x l)) a 0 ≡ cond (b && not (leb x (suc l))) a 0 + cond (b && eqb x (suc l)) a 0)
+one-more false x l a = (refl, refl)
+one-more true x l a =
+    elim (decLe x l) [
+      | yes h ↦ rw (le-leb x l h, le-leb x (suc l) (omega arith), ne-eqb x (suc l) (omega arith)) (omega arith)
+      | no h ↦
+          rw (lt-leb x l (omega arith))
+          (elim (ℕ-discrete x (suc l)) [
+            | yes d ↦ rw (le-leb x (suc l) (omega arith), eq-eqb x (suc l) d) (omega arith)
+            | no d ↦ rw (lt-leb x (suc l) (omega arith), ne-eqb x (suc l) d) (omega arith)
+          ])
+    ]
+
+module _ (s x a : ℕ → ℕ) (q n : ℕ) where
+  unfoldable pub upTo : ℕ → ℕ
+  upTo l = sumTo (λ i. cond (eqb (s i) q && leb (x i) l) (a i) 0) n
+
+  unfoldable pub beyond : ℕ → ℕ
+  beyond l = sumTo (λ i. cond (eqb (s i) q && not (leb (x i) l)) (a i) 0) n
+
+  module _ (table : List ℕ) (w : Tallied (λ i. placeOf (s i) (x i)) a n table) (room : 640 ≤ length table) (hq : q < 64) (hx : (i : ℕ) → i < n → (1 ≤ x i) × (x i < 10)) where
+    here : (l : ℕ) → l < 10 → getD table (placeOf q l) 0 ≡ sumTo (λ i. cond (eqb (s i) q && eqb (x i) l) (a i) 0) n
+    here l hl =
+        w .is (placeOf q l) (omega arith)
+        ∙ sum-same _ _ n (λ i h. ap (λ (b : Bool). cond b (a i) 0) (place-is (s i) (x i) q l (hx i h .1) hl))
+
+    pub up-more : (l : ℕ) → suc l < 10 → upTo (suc l) ≡ upTo l + getD table (placeOf q (suc l)) 0
+    unfolding upTo
+    up-more l hl =
+        rw (here (suc l) hl) (sum-both _ _ _ n (λ i h. one-more (eqb (s i) q) (x i) l (a i) .0))
+
+    pub past-more : (l : ℕ) → suc l < 10 → beyond l ≡ beyond (suc l) + getD table (placeOf q (suc l)) 0
+    unfolding beyond
+    past-more l hl =
+        rw (here (suc l) hl) (sum-both _ _ _ n (λ i h. one-more (eqb (s i) q) (x i) l (a i) .1))
+
+    -- past 8 only 9 is left
+    pub past-last : beyond 8 ≡ getD table (placeOf q 9) 0
+    unfolding beyond
+    past-last =
+        rw (here 9 (omega arith)) (sum-same _ _ n (λ i h. ap (λ (b : Bool). cond (eqb (s i) q && b) (a i) 0) (last (x i) (hx i h .1))))
+      where
+        last : (x : ℕ) → x < 10 → not (leb x 8) ≡ eqb x 9
+        last x h =
+            elim (decLe x 8) [
+              | yes k ↦ rw (le-leb x 8 k, ne-eqb x 9 (omega arith)) refl
+              | no k ↦ let z : x ≡ 9 = omega arith in rw (lt-leb x 8 (omega arith), eq-eqb x 9 z) refl
+            ]
+
+  module _ (hx : (i : ℕ) → i < n → 1 ≤ x i) where
+    pub up-none : upTo 0 ≡ 0
+    unfolding upTo
+    up-none = sum-none _ n (λ i h. nothing (eqb (s i) q) (x i) (a i) (hx i h))
+      where
+        nothing : (b : Bool) (x a : ℕ) → 1 ≤ x → cond (b && leb x 0) a 0 ≡ 0
+        nothing true x a h = rw (lt-leb x 0 h) refl
+        nothing false x a h = refl
+
+    pub past-all : beyond 0 ≡ sumTo (λ i. cond (eqb (s i) q) (a i) 0) n
+    unfolding beyond
+    past-all = sum-same _ _ n (λ i h. all (eqb (s i) q) (x i) (a i) (hx i h))
+      where
+        all : (b : Bool) (x a : ℕ) → 1 ≤ x → cond (b && not (leb x 0)) a 0 ≡ cond b a 0
+        all true x a h = rw (lt-leb x 0 h) refl
+        all false x a h = refl

@@ -1,0 +1,12 @@
+pub mod Cover
+pub mod Entries
+pub mod Facts
+pub mod Floors
+pub mod Groups
+pub mod Nodes
+pub mod Parts
+pub mod Ranges
+pub mod Sets
+pub mod Starts
+pub mod Sums
+pub mod Tallies

@@ -1,0 +1,126 @@
+-- The laws of the 321 numbers while they are written: each one fact, one set, and the total. Assumes nothing.
+use Prim.Native.Nat.{ℕ, zero, suc, _+_, _-_, _≤_, _<_}
+use native.Mathlib.Omega.{arith}
+use native.Mathlib.Decide.{ℕ-discrete, decLt}
+use mathlib.Core.Path.{_≡_, refl, sym, _∙_, ap, ap₂, subst}
+use mathlib.Core.Logic.{_≢_}
+use mathlib.Core.Bool.{Bool, true, false, cond}
+use mathlib.Core.List.{List, _++_}
+use borrow.Author.Tests.{lt-ltb, le-ltb}
+use lib.Dec.{ltb}
+use lib.ListN.{length, getD, take, drop, set, length-set, length-append, length-drop, take-append-drop, List·getD-append}
+use lib.Seq.{getD-set-same, getD-set-other, drop-set-lt, ext-getD, getD-take, length-take-le, drop-at}
+use Rattle.paper.specs.Lists.{sumTo, table}
+use Rattle.paper.specs.Cases.{Case}
+use Rattle.paper.specs.Bounds.{factBound, setBound, totalBound, numberAt}
+use Rattle.paper.proofs.Sums.{Added, added-end}
+use Rattle.paper.proofs.Tables.{length-table, getD-table}
+use Rattle.charge.specs.Tables.{zeros, partAt, Part}
+
+ltb-more : (i n : ℕ) → i ≢ n → ltb i (n + 1) ≡ ltb i n
+ltb-more i n h =
+    elim (decLt i n) [
+      | yes l ↦ lt-ltb i (n + 1) (omega arith) ∙ sym (lt-ltb i n l)
+      | no l ↦ le-ltb i (n + 1) (omega arith) ∙ sym (le-ltb i n (omega arith))
+    ]
+
+module _ (e : Case) (old : List ℕ) where
+  -- all numbers are 0
+  pub part-start : (new : List ℕ) → 321 ≤ length old → new ≡ zeros ++ drop 321 old → Part e 0 0 0 old new
+  part-start new r q =
+      let k : length zeros ≡ 321 = length-table _ 321 in
+      rw q (record {
+        room = length-append zeros (drop 321 old) ∙ omega (arith, k, length-drop 321 old);
+        is = λ i l. List·getD-append zeros (drop 321 old) 0 i (omega (arith, k)) ∙ getD-table _ 321 i 0 l ∙ nothing i;
+        later = drop-at zeros (drop 321 old) 321 k;
+      })
+    where
+      pick : (a b : Bool) → _≡_ {A = ℕ} 0 (cond a 0 (cond b 0 0))
+      pick true b = refl
+      pick false true = refl
+      pick false false = refl
+
+      nothing : (i : ℕ) → 0 ≡ partAt e 0 0 0 i
+      nothing i = unfold partAt in rw (le-ltb (i - 1) 0 (omega arith), le-ltb (i - 65) 0 (omega arith)) (pick (ltb i 1) (ltb i 65))
+
+  pub part-self : (T Q I : ℕ) (new : List ℕ) → Part e T Q I old new → Part e T Q I new new
+  part-self T Q I new w = record { room = refl; is = w .is; later = refl }
+
+  -- one number is written
+  part-more :
+      (T Q I T′ Q′ I′ k x : ℕ) (new : List ℕ) → 321 ≤ length old → k < 321 → x ≡ partAt e T′ Q′ I′ k
+      → ((i : ℕ) → i ≢ k → partAt e T′ Q′ I′ i ≡ partAt e T Q I i) → Part e T Q I old new → Part e T′ Q′ I′ old (set new k x)
+  part-more T Q I T′ Q′ I′ k x new r h ex other w =
+      record {
+        room = length-set new k x ∙ w .room;
+        is =
+            λ i l.
+            elim (ℕ-discrete i k) [
+              | yes q ↦ rw q (getD-set-same new k x 0 (omega (arith, w .room)) ∙ ex)
+              | no q ↦ getD-set-other new k i x 0 q ∙ w .is i l ∙ sym (other i q)
+            ];
+        later = drop-set-lt 321 new k x h ∙ w .later;
+      }
+
+  pub part-fact : (I x : ℕ) (new : List ℕ) → 321 ≤ length old → I < 256 → x ≡ factBound e (e .fact I) → Part e 0 0 I old new → Part e 0 0 (I + 1) old (set new (65 + I) x)
+  part-fact I x new r h ex w =
+      part-more 0 0 I 0 0 (I + 1) (65 + I) x new r (omega arith) (here ex) other w
+    where
+      here : x ≡ factBound e (e .fact I) → x ≡ partAt e 0 0 (I + 1) (65 + I)
+      here ex =
+          unfold partAt in
+          let z : 65 + I - 65 ≡ I = omega arith in
+          rw (le-ltb (65 + I) 1 (omega arith), le-ltb (65 + I) 65 (omega arith), z, lt-ltb I (I + 1) (omega arith)) ex
+
+      other : (i : ℕ) → i ≢ 65 + I → partAt e 0 0 (I + 1) i ≡ partAt e 0 0 I i
+      other i n =
+          unfold partAt in
+          elim (decLt i 65) [
+            | yes l ↦ rw (lt-ltb i 65 l) refl
+            | no l ↦ rw (ltb-more (i - 65) I (omega arith)) refl
+          ]
+
+  pub part-set : (Q I x : ℕ) (new : List ℕ) → 321 ≤ length old → Q < 64 → x ≡ setBound e Q → Part e 0 Q I old new → Part e 0 (Q + 1) I old (set new (1 + Q) x)
+  part-set Q I x new r h ex w =
+      part-more 0 Q I 0 (Q + 1) I (1 + Q) x new r (omega arith) (here ex) other w
+    where
+      here : x ≡ setBound e Q → x ≡ partAt e 0 (Q + 1) I (1 + Q)
+      here ex =
+          unfold partAt in
+          let z : 1 + Q - 1 ≡ Q = omega arith in
+          rw (le-ltb (1 + Q) 1 (omega arith), lt-ltb (1 + Q) 65 (omega arith), z, lt-ltb Q (Q + 1) (omega arith)) ex
+
+      other : (i : ℕ) → i ≢ 1 + Q → partAt e 0 (Q + 1) I i ≡ partAt e 0 Q I i
+      other i n =
+          unfold partAt in
+          elim (decLt i 1) [
+            | yes l ↦ rw (lt-ltb i 1 l) refl
+            | no l ↦ rw (ltb-more (i - 1) Q (omega arith)) refl
+          ]
+
+  pub part-total :
+      (Q I b x : ℕ) (new : List ℕ) → 321 ≤ length old → Part e 0 Q I old new → Added (setBound e) b (e .sets) x Q → e .sets ≤ Q
+      → Part e (totalBound e) (e .sets) I old (set new 0 x)
+  part-total Q I b x new r w a h =
+      let z : Q ≡ e .sets = omega (arith, a .within) in
+      part-more 0 (e .sets) I (totalBound e) (e .sets) I 0 x new r (omega arith) (total (added-end (setBound e) b (e .sets) x Q a h .0)) other
+      (subst (λ n. Part e 0 n I old new) z w)
+    where
+      total : x ≡ sumTo (setBound e) (e .sets) → x ≡ partAt e (totalBound e) (e .sets) I 0
+      total q = unfold partAt totalBound in q
+
+      other : (i : ℕ) → i ≢ 0 → partAt e (totalBound e) (e .sets) I i ≡ partAt e 0 (e .sets) I i
+      other i n = unfold partAt in rw (le-ltb i 1 (omega arith)) refl
+
+  -- all are written
+  pub part-end : (mid new : List ℕ) → 321 ≤ length old → length mid ≡ length old → drop 321 mid ≡ drop 321 old → Part e (totalBound e) (e .sets) (e .facts) mid new → new ≡ table (numberAt e) 321 ++ drop 321 old
+  unfolding numberAt partAt
+  part-end mid new r k d w =
+      let n : 321 ≤ length new = omega (arith, w .room) in
+      let m = length-take-le 321 new n in
+      let h : take 321 new ≡ table (numberAt e) 321 =
+      ext-getD 0 (take 321 new) (table (numberAt e) 321) (m ∙ sym (length-table (numberAt e) 321))
+      (λ i l.
+      let k : i < 321 = omega (arith, m) in
+      getD-take 321 new i 0 k ∙ w .is i k ∙ sym (getD-table (numberAt e) 321 i 0 k)) in
+      sym (take-append-drop 321 new) ∙ ap₂ (λ (x y : List ℕ). x ++ y) h (w .later ∙ d)

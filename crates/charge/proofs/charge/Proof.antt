@@ -1,0 +1,73 @@
+use native.Mathlib.Omega.{arith}
+use mathlib.Core.Path.{_∙_}
+use borrow.Author.Needs.{needs}
+use Rattle.paper.specs.Files.{caseOf}
+use Rattle.charge.specs.Ready.{Ready}
+use Rattle.charge.specs.Tables.{Part}
+use Rattle.charge.proofs.Parts.{part-start, part-self, part-end}
+use Rattle.charge.proofs.Starts.{covered-start, facts-start, nodes-start}
+use Rattle.charge.proofs.charge.Statement.{statement}
+use Rattle.charge.proofs.charge.Tie as tie
+
+ready : (c : tie.Start) → Ready (c .args .file .now) (c .args .t) (c .args .counts .now)
+ready c = let p = c .pre in record { laid = p .0; sound = p .1 .0; placed = p .1 .1 .0; counted = p .1 .1 .1 .0 }
+
+-- the numbers are 0
+cleared : (c : tie.After-clear) → Part (caseOf (c .before .before .before .before .before .args .file .now) (c .before .before .before .before .before .args .t)) 0 0 0 (c .before .before .before .before .before .args .bounds .now) (c .clear .last .0)
+cleared c = part-start _ _ _ (c .before .before .before .before .before .pre .1 .1 .1 .1) (c .clear .ensures)
+
+charge-facts-requires : tie.Need-charge-facts-requires
+unfolding caseOf
+charge-facts-requires c κs =
+    let p = cleared (c .before .before .before .before .before .before) in (
+      ready (c .before .before .before .before .before .before .before .before .before .before .before),
+      (
+        covered-start _ (c .before .before .before .before .before .before .before .before .before .before .before .pre .0 .nodes-high),
+        (facts-start _, (part-self _ _ _ _ _ _ p, omega (arith, p .room, c .before .before .before .before .before .before .before .before .before .before .before .pre .1 .1 .1 .1))),
+      ),
+    )
+
+charge-nodes-requires : tie.Need-charge-nodes-requires
+charge-nodes-requires c κs = (ready (c .before .before .before .before .before .before .before .before .before .before .before .before .before .before .before .before .before .before .before .before), (c .before .before .before .before .before .before .before .before .charge-facts .ensures .0, nodes-start _))
+
+charge-sets-requires : tie.Need-charge-sets-requires
+charge-sets-requires c κs =
+    let w = c .before .before .before .before .before .before .before .before .before .before .before .before .before .before .before .before .charge-facts .ensures .1 in
+    let p = cleared (c .before .before .before .before .before .before .before .before .before .before .before .before .before .before .before .before .before .before .before .before .before .before .before) in (
+      c .before .before .before .before .before .before .before .before .before .before .before .before .before .before .before .before .before .before .before .before .before .before .before .before .before .before .before .before .pre .0,
+      (
+        c .before .before .before .before .before .before .before .before .before .before .before .before .before .before .before .before .before .before .before .before .before .before .before .before .before .before .before .before .pre .1 .0,
+        (
+          w .0,
+          (c .before .before .before .before .before .before .before .charge-nodes .ensures, (part-self _ _ _ _ _ _ (w .1), omega (arith, w .1 .room, p .room, c .before .before .before .before .before .before .before .before .before .before .before .before .before .before .before .before .before .before .before .before .before .before .before .before .before .before .before .before .pre .1 .1 .1 .1))),
+        ),
+      ),
+    )
+
+returns : tie.Need-returns
+unfolding caseOf
+returns c =
+    let w = c .before .before .before .before .before .before .before .before .before .before .before .before .before .before .before .before .before .before .before .charge-facts .ensures .1 .1 in
+    let p = cleared (c .before .before .before .before .before .before .before .before .before .before .before .before .before .before .before .before .before .before .before .before .before .before .before .before .before .before) in
+    part-end _ (c .before .before .before .before .before .before .before .before .before .before .before .before .before .before .before .before .before .before .before .before .before .before .before .before .before .before .before .before .before .before .before .args .bounds .now) _ _ (c .before .before .before .before .before .before .before .before .before .before .before .before .before .before .before .before .before .before .before .before .before .before .before .before .before .before .before .before .before .before .before .pre .1 .1 .1 .1) (w .room ∙ p .room) (w .later ∙ p .later) (c .before .before .charge-sets .ensures)
+
+pub charge-spec : {M : Type 1} → statement M
+charge-spec =
+    tie.close
+    (tie.spec
+    (λ c κs. search needs)
+    (λ c. search needs)
+    (λ c. search needs)
+    (λ c. search needs)
+    charge-facts-requires
+    (λ c. search needs)
+    (λ c. search needs)
+    (λ c. search needs)
+    charge-nodes-requires
+    (λ c. search needs)
+    (λ c. search needs)
+    (λ c. search needs)
+    (λ c. search needs)
+    charge-sets-requires
+    (λ c. search needs)
+    returns)

@@ -1,0 +1,77 @@
+use Prim.Native.Nat.{_-_, _*_, _+_, _≤_, _<_}
+use native.Mathlib.Omega.{arith}
+use mathlib.Core.Path.{refl}
+use borrow.Author.Needs.{needs}
+use lib.ListN.{length}
+use Rattle.paper.specs.Files.{caseOf}
+use Rattle.paper.proofs.Sums.{lowest-end}
+use Rattle.charge.proofs.Floors.{Flooring, flooring-start, out-fits, in-small, next-small, flooring-more}
+use Rattle.charge.proofs.least_floor.Statement.{statement}
+use Rattle.charge.proofs.least_floor.Tie as tie
+
+abbrev Inv-loop : tie.InvT-loop
+Inv-loop file t charged entered fetched spent q a k m₀ x₀ j₀ m x j = Flooring (caseOf file t) q a m x j
+
+abbrev μ-loop : tie.MeasureT-loop
+μ-loop file t charged entered fetched spent q a k m₀ x₀ j₀ m x j = k - j
+
+loop-holds : tie.Need-loop-holds Inv-loop μ-loop
+loop-holds c =
+    let p = c .before .before .before .before .before .before .before .pre in
+    flooring-start _ _ (p .0) (p .1 .0) _ _ _ _ (p .1 .1 .0) (p .1 .1 .1 .0) _ (p .1 .1 .1 .1) _
+
+-- the place in the tables
+place : (c : tie.In-loop Inv-loop μ-loop) → 10 * c .before .before .before .before .before .before .before .before .before .args .q + c .before .loop .j + 1 < 640
+place c = omega (arith, c .loop-test .taken, c .before .before .before .before .before .before .before .before .before .pre .0 .ways-high, c .before .before .before .before .before .before .before .before .before .pre .1 .1 .1 .1)
+
+add-m : tie.Need-add-m Inv-loop μ-loop
+add-m c =
+    let p = c .before .before .before .before .before .before .before .before .before .before .pre in
+    omega (arith, in-small _ _ (p .0) (p .1 .0) _ _ _ _ (p .1 .1 .0) (p .1 .1 .1 .0) _ (p .1 .1 .1 .1) _ _ _ _ (c .before .before .loop .inv) (c .before .loop-test .taken), c .before .loop-test .taken, p .0 .ways-high)
+
+sub-m : tie.Need-sub-m Inv-loop μ-loop
+sub-m c =
+    let p = c .before .before .before .before .before .before .before .before .before .before .before .pre in
+    out-fits _ _ (p .0) (p .1 .0) _ _ _ _ (p .1 .1 .0) (p .1 .1 .1 .0) _ (p .1 .1 .1 .1) _ _ _ _ (c .before .before .before .loop .inv) (c .before .before .loop-test .taken)
+
+floor-of-requires : tie.Need-floor-of-requires Inv-loop μ-loop
+floor-of-requires c κs =
+    let p = c .before .before .before .before .before .before .before .before .before .before .before .pre in (
+      c .before .before .loop-test .taken,
+      (p .0 .ways-high, next-small _ _ (p .0) (p .1 .0) _ _ _ _ (p .1 .1 .0) (p .1 .1 .1 .0) _ (p .1 .1 .1 .1) _ _ _ _ (c .before .before .before .loop .inv) (c .before .before .loop-test .taken)),
+    )
+
+loop-again : tie.Need-loop-again Inv-loop μ-loop
+loop-again c =
+    let p = c .before .before .before .before .before .before .before .before .before .before .before .before .before .pre in
+    flooring-more _ _ (p .0) (p .1 .0) _ _ _ _ (p .1 .1 .0) (p .1 .1 .1 .0) _ (p .1 .1 .1 .1) _ _ _ _ (c .before .before .before .before .before .loop .inv) (c .before .before .before .before .loop-test .taken) _ _ _ refl (c .before .floor-of .ensures) (c .lesser .ensures)
+
+returns : tie.Need-returns Inv-loop μ-loop
+unfolding caseOf
+returns c = lowest-end _ _ _ _ _ (c .before .loop .inv .lowest) (c .loop-test .left)
+
+pub least-floor-spec : {M : Type 1} → statement M
+least-floor-spec =
+    tie.close
+    (tie.spec
+    Inv-loop
+    μ-loop
+    (λ c. search needs)
+    (λ c. omega arith)
+    (λ c. omega (arith, c .before .before .before .before .before .before .before .pre .1 .1 .1 .0 .sets, c .before .before .before .before .before .before .before .pre .1 .1 .1 .1))
+    loop-holds
+    (λ c. omega (arith, c .before .before .before .before .before .before .before .before .before .pre .1 .1 .1 .1))
+    (λ c. omega (arith, place c))
+    (λ c. omega (arith, place c))
+    (λ c. omega (arith, place c))
+    (λ c. omega (arith, place (c .before), c .before .before .before .before .before .before .before .before .before .before .pre .1 .1 .0 .limits))
+    add-m
+    (λ c. omega (arith, place (c .before)))
+    (λ c. omega (arith, place (c .before .before), c .before .before .before .before .before .before .before .before .before .before .before .pre .1 .1 .1 .0 .limits))
+    sub-m
+    floor-of-requires
+    (λ c κs. search needs)
+    (λ c. omega (arith, c .before .before .before .before .loop-test .taken, c .before .before .before .before .before .before .before .before .before .before .before .before .before .pre .0 .ways-high))
+    (λ c. omega (arith, c .before .before .before .before .loop-test .taken))
+    loop-again
+    returns)

@@ -1,0 +1,3 @@
+pub mod Late
+pub mod Early
+pub mod Walk

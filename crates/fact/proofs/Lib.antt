@@ -1,0 +1,7 @@
+pub mod Looks
+pub mod Scopes
+pub mod Slots
+pub mod Sets
+pub mod OneRow
+pub mod OneEdge
+pub mod OneStep

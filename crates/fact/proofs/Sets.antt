@@ -1,0 +1,139 @@
+-- Sets of blocks: a block looked for in one, and one set looked for in another, where both rise. Assumes nothing.
+use Prim.Native.Nat.{ℕ, zero, suc, _+_, _%_, _≤_, _<_}
+use native.Mathlib.Omega.{arith}
+use native.Mathlib.Numerals.{add-one}
+use native.Mathlib.Decide.{decLe}
+use mathlib.Core.Path.{_≡_, refl, sym, _∙_, ap, subst}
+use mathlib.Core.Bool.{Bool, true, false, not, _&&_, true≢false}
+use mathlib.Core.Logic.{_≢_, ⊎-elim}
+use mathlib.Core.List.{List}
+use borrow.Author.Count.{below-more}
+use borrow.Author.Tests.{eq-eqb, ne-eqb}
+use lib.Dec.{eqb}
+use Rattle.paper.specs.Lists.{some}
+use Rattle.paper.specs.declared.Trailer.{Trailer}
+use Rattle.paper.specs.Machines.{none}
+use Rattle.paper.specs.Cases.{Row, sameSet}
+use Rattle.paper.specs.Files.{caseOf}
+use Rattle.paper.specs.Facts.{held, holds}
+use Rattle.paper.proofs.Least.{Passed, passed-start, look, some-is}
+use Rattle.fact.specs.declared.Head.{Head}
+use Rattle.fact.specs.Stands.{Stands, factOf}
+use Rattle.fact.specs.Rows.{missing, forgets}
+use Rattle.fact.proofs.Scopes.{home-is}
+use Rattle.fact.proofs.Looks.{some-found, some-end, passed-at}
+
+-- slot k is the block x
+unfoldable pub slotIs : Row → ℕ → ℕ → Bool
+slotIs r x k = eqb (r .slot k) x
+
+pub slot-is : (r : Row) (x k y : ℕ) (b : Bool) → y ≡ r .slot k → eqb y x ≡ b → slotIs r x k ≡ b
+unfolding slotIs
+slot-is r x k y b e q = rw (← e) q
+
+module _ (s : Row) (m x : ℕ) (e : held s ≡ m) where
+  pub holds-some : holds s x ≡ some (slotIs s x) m
+  unfolding holds slotIs
+  holds-some = rw e refl
+
+  pub holds-at : (k : ℕ) → k < m → s .slot k ≡ x → holds s x ≡ true
+  holds-at k h q =
+      holds-some
+      ∙ ⊎-elim
+      (λ none. absurd (true≢false (sym (slot-is s x k (s .slot k) true refl (eq-eqb _ _ q)) ∙ none k h)))
+      (λ w. some-is (slotIs s x) m w)
+      (look (slotIs s x) m)
+
+  module _ (k : ℕ) (w : Passed (slotIs s x) m k) where
+    pub holds-found : k < m → slotIs s x k ≡ true → true ≡ holds s x
+    holds-found h q = some-found _ _ _ w _ h (sym q) refl ∙ sym holds-some
+
+    pub holds-end : m ≤ k → false ≡ holds s x
+    holds-end h = some-end _ _ _ w h ∙ sym holds-some
+
+-- the block x of node u, where u fetches one of b's set
+module _ (f : List ℕ) (t : Trailer) (h : Head) (a : Stands f t h) (x : ℕ) (s : Row) where
+  pub forgets-none : x ≡ none → false ≡ forgets (caseOf f t) (factOf f h) x s
+  unfolding forgets
+  forgets-none e = rw (eq-eqb x none e) refl
+
+  module _ (q : x ≢ none) where
+    pub forgets-other : x % t .sets ≢ h .home → false ≡ forgets (caseOf f t) (factOf f h) x s
+    unfolding forgets sameSet caseOf
+    forgets-other w = rw (ne-eqb x none q, ne-eqb _ _ (λ z. w (z ∙ sym (home-is f t h a)))) refl
+
+    pub forgets-same : (b : Bool) → x % t .sets ≡ h .home → b ≡ holds s x → not b ≡ forgets (caseOf f t) (factOf f h) x s
+    unfolding forgets sameSet caseOf
+    forgets-same b w e = rw (ne-eqb x none q, eq-eqb _ _ (w ∙ home-is f t h a), ← e) refl
+
+-- "strictly rising"
+abbrev Rises : Row → ℕ → Type 0
+Rises r n = (k : ℕ) → suc k < n → r .slot k < r .slot (suc k)
+
+rises-on : (r : Row) (n : ℕ) → Rises r n → (j k : ℕ) → j ≤ k → k < n → r .slot j ≤ r .slot k
+rises-on r n w j zero l h = let z : j ≡ 0 = omega arith in rw z (omega arith)
+rises-on r n w j (suc k) l h =
+    elim (decLe j k) [
+      | yes q ↦ omega (arith, rises-on r n w j k q (omega arith), w k h)
+      | no q ↦ let z : j ≡ suc k = omega arith in rw z (omega arith)
+    ]
+
+-- One pass over two sets that rise is at block i of r and block j of s: s holds the blocks of r before i, and its own before j are below block i.
+pub record Merged (r s : Row) (n m i j : ℕ) : Type 0 where
+  pub passed : Passed (missing r s) n i
+  pub within : j ≤ m
+  pub below : (k : ℕ) → k < j → i < n → s .slot k < r .slot i
+
+module _ (r s : Row) (n m : ℕ) where
+  pub merged-start : Merged r s n m 0 0
+  merged-start = record { passed = passed-start _ _; within = omega arith; below = λ k q l. absurd (omega arith) }
+
+  pub merged-at : (i i′ j : ℕ) → i′ ≡ i → Merged r s n m i j → Merged r s n m i′ j
+  merged-at i i′ j e w = subst (λ z. Merged r s n m z j) (sym e) w
+
+  pub merged-end : (i j : ℕ) → Merged r s n m i j → n ≤ i → false ≡ some (missing r s) n
+  merged-end i j w l = some-end _ _ _ (w .passed) l
+
+  module _ (e : held s ≡ m) (i j : ℕ) (w : Merged r s n m i j) (l : i < n) where
+    -- the other blocks of s are above block i: s lacks it
+    lacked : ((k : ℕ) → j ≤ k → k < m → r .slot i < s .slot k) → true ≡ some (missing r s) n
+    unfolding missing
+    lacked above =
+        some-found (missing r s) n i (w .passed) true l
+        (ap not (holds-end s m (r .slot i) e m (record { within = omega arith; none = λ k q. apart k q }) (omega arith)))
+        refl
+      where
+        apart : (k : ℕ) → k < m → slotIs s (r .slot i) k ≡ false
+        apart k q =
+            slot-is s (r .slot i) k (s .slot k) false refl
+            (ne-eqb (s .slot k) (r .slot i)
+            (elim (decLe j k) [ yes z ↦ (λ o. absurd (omega (arith, above k z q))) | no z ↦ (λ o. absurd (omega (arith, w .below k (omega arith) l))) ]))
+
+    pub merged-out : m ≤ j → true ≡ some (missing r s) n
+    merged-out h = lacked (λ k q z. absurd (omega arith))
+
+    module _ (h : j < m) (x y : ℕ) (a : x ≡ r .slot i) (b : y ≡ s .slot j) where
+      pub merged-above : Rises s m → x < y → true ≡ some (missing r s) n
+      merged-above u q = lacked (λ k z o. omega (arith, rises-on s m u j k z o))
+
+      pub merged-skip : ¬ (x < y) → x ≢ y → Merged r s n m i (j + 1)
+      merged-skip p q =
+          record {
+            passed = w .passed;
+            within = omega arith;
+            below = below-more (λ k. i < n → s .slot k < r .slot i) j (w .below) (λ z. omega arith);
+          }
+
+      there : x ≡ y → missing r s i ≡ false
+      unfolding missing
+      there q = ap not (holds-at s m (r .slot i) e j h (sym b ∙ sym q ∙ a))
+
+      pub merged-same : Rises r n → x ≡ y → Merged r s n m (i + 1) (j + 1)
+      merged-same u q =
+          let low : (k : ℕ) → k < j + 1 → s .slot k ≤ r .slot i =
+          below-more (λ k. s .slot k ≤ r .slot i) j (λ k z. omega (arith, w .below k z l)) (omega arith) in
+          record {
+            passed = passed-at _ _ _ (w .passed) l (there q);
+            within = omega arith;
+            below = λ k z o. let v : r .slot i < r .slot (i + 1) = rw (add-one i) (u i (omega arith)) in omega (arith, low k z);
+          }

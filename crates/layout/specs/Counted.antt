@@ -1,0 +1,12 @@
+-- A table that holds each node's count: "the product of B over all loops that contain it". Assumes nothing.
+use Prim.Native.Nat.{ℕ, _≤_, _<_}
+use mathlib.Core.Path.{_≡_}
+use mathlib.Core.List.{List}
+use lib.ListN.{length, getD}
+use Rattle.paper.specs.declared.Trailer.{Trailer}
+use Rattle.paper.specs.Graphs.{count}
+use Rattle.paper.specs.Files.{caseOf}
+
+pub record Counted (f : List ℕ) (t : Trailer) (counts : List ℕ) : Type 0 where
+  pub room : t .nodes ≤ length counts
+  pub at : (v : ℕ) → v < t .nodes → getD counts v 0 ≡ count (caseOf f t) v
