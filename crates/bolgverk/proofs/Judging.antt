@@ -17,7 +17,9 @@ use Rattle.paper.proofs.GraphLaws.{graph-sound}
 use Rattle.paper.proofs.VerdictLaws.{graph-kept, facts-kept}
 use Rattle.layout.specs.Laid.{Laid}
 use Rattle.graph.proofs.Laws.{accepted-graph, refused-graph}
+use Rattle.fact.specs.Edges.{Ordered}
 use Rattle.evidence.specs.Fits.{Fits}
+use Rattle.evidence.proofs.Known.{ordered, fits}
 use Rattle.charge.specs.Ready.{Placed}
 use Rattle.bolgverk.specs.Judged.{Judged}
 
@@ -31,9 +33,13 @@ module _ (f : List ℕ) (t : Trailer) where
       graph-passed : SoundGraph (caseOf f t)
       graph-passed = graph-sound (caseOf f t) (graph-kept f t Accepted (sym a ∙ e) .0)
 
+      pub edges-ordered : Ordered f t
+      unfolding caseOf
+      edges-ordered = ordered f t (graph-kept f t Accepted (sym a ∙ e) .0 .edges)
+
       pub loops-fit : Fits f t
       unfolding caseOf
-      loops-fit = record { fits = λ j h. let x = graph-passed .fits j h in (x .0, x .1) }
+      loops-fit = fits f t (graph-kept f t Accepted (sym a ∙ e) .0 .loops)
 
       -- the facts' verdict is w
       module _ (w : Verdict) (b : w ≡ factRules f t) where

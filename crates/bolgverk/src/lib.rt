@@ -3,13 +3,48 @@ ghost use mathlib.Core.Path.{_≡_};
 ghost use Prim.Native.Nat.{_≤_};
 ghost use lib.ListN.{length};
 ghost use Rattle.layout.specs.Laid.{Laid};
-ghost use Rattle.bolgverk.specs.Promises.{CheckPromise};
+ghost use Rattle.bolgverk.specs.Promises.{StepPromise, BlockPromise, SetPromise, TracePromise, CheckPromise};
 ghost use Rattle.bolgverk.specs.Judged.{Judged};
 ghost use Rattle.paper.specs.Machines.{inRange};
 ghost use mathlib.Core.Bool.{true};
 use layout::Layout;
+use paper::Address;
+use paper::Block;
+use paper::BlockAnswer;
+use paper::SetAnswer;
+use paper::SetState;
+use paper::StepAnswer;
+use paper::TraceAnswer;
 use paper::Trailer;
 use paper::Verdict;
+
+// "A single step takes a policy, k, any set state and any block (no S; the block's set isn't looked at)"
+pub fn step(policy: u8, ways: u8, state: SetState, block: Block) -> StepAnswer
+    ensures { λ r. ⌜ StepPromise policy ways state block r ⌝ }
+{
+    machine::step(policy, ways, state, block)
+}
+
+// "Block = address / line size, rounded down"
+pub fn block_of(address: Address, line_size: u32) -> BlockAnswer
+    ensures { λ r. ⌜ BlockPromise address «line_size» r ⌝ }
+{
+    machine::block_of(address, line_size)
+}
+
+// "block b lives in set b mod S"
+pub fn set_of(block: Block, sets: u8) -> SetAnswer
+    ensures { λ r. ⌜ SetPromise block sets r ⌝ }
+{
+    machine::set_of(block, sets)
+}
+
+// "A trace run takes a policy, k, S, a lent list of 16-bit blocks and a byte list; all sets start empty with bits 0."
+pub fn trace_run(policy: u8, ways: u8, sets: u8, blocks: &[u16], marks: &mut [u8]) -> TraceAnswer
+    ensures { λ r. ⌜ TracePromise policy ways sets (now (blocks .entry)) (now (marks .entry)) r (now (marks .exit)) ⌝ }
+{
+    trace::trace_run(policy, ways, sets, blocks, marks)
+}
 
 // Rules 6 to 19 and the 321 numbers, for a file that passes rules 1 to 5.
 fn judge(file: &[u8], t: Trailer, bounds: &mut [u64]) -> Verdict

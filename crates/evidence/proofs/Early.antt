@@ -1,5 +1,5 @@
 -- Rules 11 to 13 of fact i, which stands at p, and its turn. Assumes nothing.
-use Prim.Native.Nat.{ℕ, suc, _+_, _-_, _%_, _≤_, _<_}
+use Prim.Native.Nat.{ℕ, _+_, _-_, _%_, _≤_, _<_}
 use native.Mathlib.Omega.{arith}
 use native.Mathlib.Numerals.{add-one}
 use native.Mathlib.Decide.{ℕ-discrete, decLt}
@@ -22,7 +22,7 @@ use Rattle.fact.specs.Stands.{scopeAt, Stands}
 use Rattle.fact.proofs.Looks.{or-left}
 use Rattle.evidence.specs.declared.Judged.{Judged}
 use Rattle.evidence.specs.Fits.{Fits}
-use Rattle.evidence.specs.Turns.{Previous, Turn, lateRule, Weighs, Judges}
+use Rattle.evidence.specs.Turns.{Previous, lateRule, Weighs, Judges}
 
 -- 12, of a fact with this loop number, block and limit
 abbrev pub wrong : Trailer → ℕ → ℕ → ℕ → Bool

@@ -1,3 +1,4 @@
+pub mod Known
 pub mod Late
 pub mod Early
 pub mod Walk

@@ -5,6 +5,7 @@ ghost use Rattle.layout.specs.Laid.{Laid};
 ghost use Rattle.evidence.specs.Fits.{Fits};
 ghost use Rattle.evidence.specs.Turns.{Turn, Weighs, Judges};
 ghost use Rattle.paper.specs.Files.{endAt};
+ghost use Rattle.fact.specs.Edges.{Ordered};
 ghost use Rattle.fact.specs.Stands.{Stands};
 ghost use Prim.Native.Nat.{_+_, _≤_};
 use fact::Head;
@@ -33,6 +34,7 @@ fn told(number: u8, block: u16, last: u16, end: usize) -> Judged
 // 14 to 18, for the fact at hand, of which the first 6 bytes are there.
 fn weigh(file: &[u8], t: Trailer, h: Head) -> Judged
     requires { ⌜ Laid (now file) t ⌝ }
+    requires { ⌜ Ordered (now file) t ⌝ }
     requires { ⌜ Stands (now file) t h ⌝ }
     requires { ⌜ h .place + 6 ≤ endAt (now file) ⌝ }
     ensures { λ r. ⌜ Weighs (now (file .entry)) t h r ⌝ }
@@ -56,6 +58,7 @@ fn weigh(file: &[u8], t: Trailer, h: Head) -> Judged
 // Fact i, which stands at p, by the rules 11 to 18. The fact before it has the block `block` and a scope that ends with the node `last`.
 fn judge(file: &[u8], t: Trailer, i: u16, p: usize, block: u16, last: u16) -> Judged
     requires { ⌜ Laid (now file) t ⌝ }
+    requires { ⌜ Ordered (now file) t ⌝ }
     requires { ⌜ Fits (now file) t ⌝ }
     requires { ⌜ Turn (now file) t i p block last ⌝ }
     ensures { λ r. ⌜ Judges (now (file .entry)) t i r ⌝ }
@@ -91,6 +94,7 @@ fn judge(file: &[u8], t: Trailer, i: u16, p: usize, block: u16, last: u16) -> Ju
 // "then for each fact in turn 11 to 18; then 19"
 pub fn fact_rules(file: &[u8], t: Trailer) -> Verdict
     requires { ⌜ Laid (now file) t ⌝ }
+    requires { ⌜ Ordered (now file) t ⌝ }
     requires { ⌜ Fits (now file) t ⌝ }
     ensures { λ r. ⌜ r ≡ Verdicts.factRules (now (file .entry)) t ⌝ }
 {

@@ -5,3 +5,4 @@ pub mod Sets
 pub mod OneRow
 pub mod OneEdge
 pub mod OneStep
+pub mod Halves

@@ -1,6 +1,7 @@
 -- The laws of a loop that asks whether a test holds somewhere below n. Assumes nothing.
-use Prim.Native.Nat.{ℕ, _≤_, _<_, _+_}
+use Prim.Native.Nat.{ℕ, zero, suc, _+_, _≤_, _<_}
 use native.Mathlib.Omega.{arith}
+use native.Mathlib.Decide.{decLe}
 use mathlib.Core.Path.{_≡_, refl, sym, _∙_}
 use mathlib.Core.Bool.{Bool, true, false, _||_, true≢false}
 use mathlib.Core.Logic.{⊎-elim}
@@ -31,6 +32,15 @@ some-same p q n e =
       holds = sym (e (w .at) (w .below)) ∙ w .holds;
     })))
     (look p n)
+
+-- numbers that never fall from one to the next
+pub climbs : (g : ℕ → ℕ) (n : ℕ) → ((k : ℕ) → suc k < n → g k ≤ g (suc k)) → (j k : ℕ) → j ≤ k → k < n → g j ≤ g k
+climbs g n w j zero l h = let z : j ≡ 0 = omega arith in rw z (omega arith)
+climbs g n w j (suc k) l h =
+    elim (decLe j k) [
+      | yes q ↦ omega (arith, climbs g n w j k q (omega arith), w k h)
+      | no q ↦ let z : j ≡ suc k = omega arith in rw z (omega arith)
+    ]
 
 pub or-left : (a b : Bool) → (a || b) ≡ false → a ≡ false
 or-left true b e = e

@@ -1,8 +1,8 @@
 -- Rule 16 for one row, branch by branch. Assumes nothing.
-use Prim.Native.Nat.{ℕ, zero, suc, _+_, _*_, _≤_, _<_}
+use Prim.Native.Nat.{ℕ, suc, _+_, _*_, _≤_, _<_}
 use native.Mathlib.Omega.{arith}
-use mathlib.Core.Path.{_≡_, refl, sym, _∙_, ap}
-use mathlib.Core.Bool.{Bool, true, false, cond, _&&_, _||_}
+use mathlib.Core.Path.{_≡_, refl, sym, _∙_}
+use mathlib.Core.Bool.{Bool, true, false, _&&_}
 use borrow.Author.Tests.{ltb-false, lt-ltb, le-ltb, le-leb, lt-leb}
 use lib.Dec.{ltb, leb}
 use lib.ListN.{length}
@@ -11,7 +11,7 @@ use Rattle.paper.specs.declared.Trailer.{Trailer}
 use Rattle.paper.specs.Lists.{some}
 use Rattle.paper.specs.Cases.{Row, Case, Fact}
 use Rattle.paper.specs.Files.{u16At, rowAt, caseOf}
-use Rattle.paper.specs.Facts.{held, badSlot, badRow}
+use Rattle.paper.specs.Facts.{badSlot, badRow}
 use Rattle.paper.proofs.Least.{None, none-some, is-some, some-is}
 use Rattle.fact.specs.Rows.{unfree, RisingAt}
 use Rattle.fact.specs.declared.Head.{Head}

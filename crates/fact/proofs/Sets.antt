@@ -1,10 +1,10 @@
 -- Sets of blocks: a block looked for in one, and one set looked for in another, where both rise. Assumes nothing.
-use Prim.Native.Nat.{ℕ, zero, suc, _+_, _%_, _≤_, _<_}
+use Prim.Native.Nat.{ℕ, suc, _+_, _%_, _≤_, _<_}
 use native.Mathlib.Omega.{arith}
 use native.Mathlib.Numerals.{add-one}
 use native.Mathlib.Decide.{decLe}
 use mathlib.Core.Path.{_≡_, refl, sym, _∙_, ap, subst}
-use mathlib.Core.Bool.{Bool, true, false, not, _&&_, true≢false}
+use mathlib.Core.Bool.{Bool, true, false, not, true≢false}
 use mathlib.Core.Logic.{_≢_, ⊎-elim}
 use mathlib.Core.List.{List}
 use borrow.Author.Count.{below-more}
@@ -21,7 +21,7 @@ use Rattle.fact.specs.declared.Head.{Head}
 use Rattle.fact.specs.Stands.{Stands, factOf}
 use Rattle.fact.specs.Rows.{missing, forgets}
 use Rattle.fact.proofs.Scopes.{home-is}
-use Rattle.fact.proofs.Looks.{some-found, some-end, passed-at}
+use Rattle.fact.proofs.Looks.{climbs, some-found, some-end, passed-at}
 
 -- slot k is the block x
 unfoldable pub slotIs : Row → ℕ → ℕ → Bool
@@ -71,12 +71,7 @@ abbrev Rises : Row → ℕ → Type 0
 Rises r n = (k : ℕ) → suc k < n → r .slot k < r .slot (suc k)
 
 rises-on : (r : Row) (n : ℕ) → Rises r n → (j k : ℕ) → j ≤ k → k < n → r .slot j ≤ r .slot k
-rises-on r n w j zero l h = let z : j ≡ 0 = omega arith in rw z (omega arith)
-rises-on r n w j (suc k) l h =
-    elim (decLe j k) [
-      | yes q ↦ omega (arith, rises-on r n w j k q (omega arith), w k h)
-      | no q ↦ let z : j ≡ suc k = omega arith in rw z (omega arith)
-    ]
+rises-on r n w = climbs (r .slot) n (λ k h. omega (arith, w k h))
 
 -- One pass over two sets that rise is at block i of r and block j of s: s holds the blocks of r before i, and its own before j are below block i.
 pub record Merged (r s : Row) (n m i j : ℕ) : Type 0 where

@@ -1,17 +1,17 @@
 -- A row's slots, tested one after the other: the blocks of a set by what may come next, then the free ones. Assumes nothing.
-use Prim.Native.Nat.{ℕ, zero, suc, _+_, _-_, _*_, _%_, _≤_, _<_}
+use Prim.Native.Nat.{ℕ, zero, suc, _+_, _-_, _%_, _≤_, _<_}
 use native.Mathlib.Omega.{arith}
 use native.Mathlib.Numerals.{add-one}
 use native.Mathlib.Decide.{decLe}
 use mathlib.Core.Path.{_≡_, refl, sym, _∙_, ap}
-use mathlib.Core.Bool.{Bool, true, false, cond, not, _&&_, _||_}
+use mathlib.Core.Bool.{Bool, false, not, _&&_, _||_}
 use mathlib.Core.List.{List}
 use borrow.Author.Tests.{lt-ltb, le-ltb, le-leb, lt-leb}
 use lib.Dec.{eqb, ltb, leb}
 use Rattle.paper.specs.declared.Trailer.{Trailer}
 use Rattle.paper.specs.Machines.{none}
 use Rattle.paper.specs.Cases.{Row, Case, Fact, sameSet}
-use Rattle.paper.specs.Files.{u16At, rowAt, caseOf}
+use Rattle.paper.specs.Files.{caseOf}
 use Rattle.paper.specs.Facts.{held, badSlot}
 use Rattle.paper.specs.Lists.{some}
 use Rattle.paper.proofs.Least.{None}

@@ -1,7 +1,6 @@
 // One fact and its evidence: rules 14 and 16 to 18. Nodes, edges and rows are read straight from the file.
 ghost use mathlib.Core.Path.{_≡_};
-ghost use mathlib.Core.Bool.{Bool};
-ghost use Prim.Native.Nat.{ℕ, _+_, _-_, _*_, _<_, _≤_};
+ghost use Prim.Native.Nat.{_+_, _*_, _<_, _≤_};
 ghost use lib.ListN.{length};
 ghost use Rattle.paper.specs.Lists.{some};
 ghost use Rattle.paper.specs.Files as Files;
@@ -9,6 +8,7 @@ ghost use Rattle.paper.specs.Facts as Facts;
 ghost use Rattle.paper.specs.Cases as Cases;
 ghost use Rattle.layout.specs.Laid.{Laid};
 ghost use Rattle.fact.specs.Stands.{factOf, nodesOf, Stands, Whole, SoundRows};
+ghost use Rattle.fact.specs.Edges.{Ordered, Splits, From};
 ghost use Rattle.fact.specs.Rows.{SetAt, RisingAt, unfree, missing, forgets, breaksAt};
 use paper::Trailer;
 
@@ -240,18 +240,34 @@ fn breaks(file: &[u8], t: Trailer, h: Head, x: u16, i: u16, j: u16) -> bool
     drops(file, r, n, s, m)
 }
 
-fn bad_step(file: &[u8], t: Trailer, h: Head, i: u16) -> bool
+// The first edge from node v or a later one: edges rise by from.
+fn first_edge(file: &[u8], t: Trailer, v: u16) -> u16
+    requires { ⌜ Laid (now file) t ⌝ }
+    requires { ⌜ Ordered (now file) t ⌝ }
+    ensures { λ r. ⌜ Splits (now (file .entry)) t v r r ⌝ }
+{
+    let mut low: u16 = 0;
+    let mut high: u16 = t.edges;
+    while low < high {
+        let middle = (low + high) / 2;
+        if layout::from_at(file, t, middle) < v {
+            low = middle + 1;
+        } else {
+            high = middle;
+        }
+    }
+    low
+}
+
+// 17, for edge i, which comes from the scope's node u.
+fn bad_step(file: &[u8], t: Trailer, h: Head, i: u16, u: u16) -> bool
     requires { ⌜ Laid (now file) t ⌝ }
     requires { ⌜ Stands (now file) t h ⌝ }
     requires { ⌜ Whole (now file) h ⌝ }
     requires { ⌜ SoundRows (now file) t h ⌝ }
-    requires { ⌜ i < t .edges ⌝ }
+    requires { ⌜ From (now file) t h i u ⌝ }
     ensures { λ b. ⌜ b ≡ Facts.badStepAt (Files.caseOf (now (file .entry)) t) (factOf (now (file .entry)) h) i ⌝ }
 {
-    let u = layout::from_at(file, t, i);
-    if (u < h.first) | (h.last < u) {
-        return false;
-    }
     let v = layout::to_at(file, t, i);
     if (v < h.first) | (h.last < v) {
         return false;
@@ -266,17 +282,22 @@ fn bad_step(file: &[u8], t: Trailer, h: Head, i: u16) -> bool
     )
 }
 
-// 17: "an edge's rule broken"
+// 17: "an edge's rule broken". The edges from nodes of the scope stand together.
 fn bad_steps(file: &[u8], t: Trailer, h: Head) -> bool
     requires { ⌜ Laid (now file) t ⌝ }
+    requires { ⌜ Ordered (now file) t ⌝ }
     requires { ⌜ Stands (now file) t h ⌝ }
     requires { ⌜ Whole (now file) h ⌝ }
     requires { ⌜ SoundRows (now file) t h ⌝ }
     ensures { λ b. ⌜ b ≡ some (Facts.badStepAt (Files.caseOf (now (file .entry)) t) (factOf (now (file .entry)) h)) (t .edges) ⌝ }
 {
-    let mut i: u16 = 0;
+    let mut i = first_edge(file, t, h.first);
     while i < t.edges {
-        if bad_step(file, t, h, i) {
+        let u = layout::from_at(file, t, i);
+        if h.last < u {
+            return false;
+        }
+        if bad_step(file, t, h, i, u) {
             return true;
         }
         i += 1;
@@ -318,6 +339,7 @@ fn bad_manys(file: &[u8], t: Trailer, h: Head) -> bool
 // The number of the first of the rules 16 to 18 that the fact's rows break; 0 where they break none.
 pub fn evidence_rule(file: &[u8], t: Trailer, h: Head) -> u8
     requires { ⌜ Laid (now file) t ⌝ }
+    requires { ⌜ Ordered (now file) t ⌝ }
     requires { ⌜ Stands (now file) t h ⌝ }
     requires { ⌜ Whole (now file) h ⌝ }
     ensures { λ r. ⌜ r ≡ Facts.evidenceRule (Files.caseOf (now (file .entry)) t) (factOf (now (file .entry)) h) ⌝ }

@@ -1,3 +1,6 @@
 pub mod Before
 pub mod Laws
-pub mod Tabled
+pub mod Loops
+pub mod Filling
+pub mod Entering
+pub mod Counting

@@ -1,1 +1,4 @@
 pub mod After
+pub mod Greatest
+pub mod Looped
+pub mod Filled

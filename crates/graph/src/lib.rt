@@ -1,15 +1,17 @@
 // Edges, loops and counts: rules 6 to 10.
 ghost use mathlib.Core.Path.{_≡_};
-ghost use Prim.Native.Nat.{_<_, _≤_, _*_, min};
-ghost use mathlib.Core.Bool.{cond};
-ghost use lib.ListN.{length};
+ghost use Prim.Native.Nat.{_≤_, _<_, _*_};
+ghost use lib.Dec.{eqb};
+ghost use lib.ListN.{length, getD};
 ghost use Rattle.paper.specs.Lists.{least};
-ghost use Rattle.paper.specs.Cases as Cases;
 ghost use Rattle.paper.specs.Graphs as Graphs;
 ghost use Rattle.paper.specs.Files.{loopAt, caseOf};
 ghost use Rattle.paper.specs.Verdicts as Verdicts;
 ghost use Rattle.layout.specs.Laid.{Laid};
 ghost use Rattle.layout.specs.Counted.{Counted};
+ghost use Rattle.graph.specs.Filled.{Filled, Holds, shown};
+ghost use Rattle.graph.specs.Greatest as Greatest;
+ghost use Rattle.graph.specs.Looped.{Edged, Looped};
 ghost use Rattle.graph.specs.After as After;
 use paper::Loop;
 use paper::Trailer;
@@ -95,51 +97,52 @@ fn rule_7(file: &[u8], t: Trailer) -> u16
     i
 }
 
-fn inside(l: Loop, v: u16) -> bool
-    ensures { λ r. ⌜ r ≡ Cases.inside l v ⌝ }
+// The places from `from` to before `to` become x.
+fn fill(table: &mut [u32], from: usize, to: usize, x: u32)
+    requires { ⌜ from ≤ to ⌝ }
+    requires { ⌜ to ≤ length (now table) ⌝ }
+    ensures { λ r. ⌜ Filled (now (table .entry)) (now (table .exit)) from to x ⌝ }
 {
-    (l.first <= v) & (v <= l.last)
+    let mut k = from;
+    while k < to {
+        table[k] = x;
+        k += 1;
+    }
 }
 
-fn beside(l: Loop, u: u16, v: u16) -> bool
-    ensures { λ r. ⌜ r ≡ Graphs.beside l u v ⌝ }
-{
-    inside(l, v) & (!inside(l, u) & !(v == l.first))
-}
-
-// The first loop that the edge u to v enters beside its header, or their number.
-fn entered(file: &[u8], t: Trailer, u: u16, v: u16) -> u16
+// For each node the header of the innermost loop that has it beside its header: loops come by rising headers, so the last that is written is the greatest.
+fn headers(file: &[u8], t: Trailer, table: &mut [u32])
     requires { ⌜ Laid (now file) t ⌝ }
-    ensures { λ r. ⌜ r ≡ least (λ j. Graphs.beside (loopAt (now (file .entry)) t j) u v) (t .loops) ⌝ }
+    requires { ⌜ Looped (caseOf (now file) t) ⌝ }
+    requires { ⌜ 1024 ≤ length (now table) ⌝ }
+    ensures { λ r. ⌜ Holds (λ v. Greatest.headerTo (caseOf (now (file .entry)) t) v (t .loops)) (t .nodes) (now (table .exit)) ⌝ }
 {
+    fill(table, 0, t.nodes as usize, 0);
     let mut j: u16 = 0;
     while j < t.loops {
-        if beside(layout::loop_at(file, t, j), u, v) {
-            return j;
-        }
+        let l = layout::loop_at(file, t, j);
+        fill(
+            table,
+            l.first as usize + 1,
+            l.last as usize + 1,
+            l.first as u32,
+        );
         j += 1;
     }
-    j
 }
 
-fn bad_entry(file: &[u8], t: Trailer, i: u16) -> bool
+// The least edge that comes from before the header over its end, or their number.
+fn first_entry(file: &[u8], t: Trailer, table: &[u32]) -> u16
     requires { ⌜ Laid (now file) t ⌝ }
-    requires { ⌜ i < t .edges ⌝ }
-    ensures { λ r. ⌜ r ≡ Graphs.badEntry (caseOf (now (file .entry)) t) i ⌝ }
-{
-    let u = layout::from_at(file, t, i);
-    let v = layout::to_at(file, t, i);
-    (u < v) & (entered(file, t, u, v) < t.loops)
-}
-
-// The least edge that breaks rule 8, or their number.
-fn rule_8(file: &[u8], t: Trailer) -> u16
-    requires { ⌜ Laid (now file) t ⌝ }
+    requires { ⌜ Edged (caseOf (now file) t) ⌝ }
+    requires { ⌜ Holds (λ v. Greatest.headerTo (caseOf (now file) t) v (t .loops)) (t .nodes) (now table) ⌝ }
     ensures { λ r. ⌜ r ≡ least (Graphs.badEntry (caseOf (now (file .entry)) t)) (t .edges) ⌝ }
 {
     let mut i: u16 = 0;
     while i < t.edges {
-        if bad_entry(file, t, i) {
+        let u = layout::from_at(file, t, i);
+        let v = layout::to_at(file, t, i);
+        if (u as u32) < table[v as usize] {
             return i;
         }
         i += 1;
@@ -147,45 +150,51 @@ fn rule_8(file: &[u8], t: Trailer) -> u16
     i
 }
 
-fn returns_to(l: Loop, u: u16, v: u16) -> bool
-    ensures { λ r. ⌜ r ≡ Graphs.returns l u v ⌝ }
+// The least edge that breaks rule 8, or their number.
+fn rule_8(file: &[u8], t: Trailer, table: &mut [u32]) -> u16
+    requires { ⌜ Laid (now file) t ⌝ }
+    requires { ⌜ Edged (caseOf (now file) t) ⌝ }
+    requires { ⌜ Looped (caseOf (now file) t) ⌝ }
+    requires { ⌜ 1024 ≤ length (now table) ⌝ }
+    ensures { λ r. ⌜ r ≡ least (Graphs.badEntry (caseOf (now (file .entry)) t)) (t .edges) ⌝ }
 {
-    inside(l, u) & (v == l.first)
+    headers(file, t, table);
+    first_entry(file, t, table)
 }
 
-// The first loop around u whose header is v, or their number.
-fn returned(file: &[u8], t: Trailer, u: u16, v: u16) -> u16
+// For each header the node after the last of its loop, and 0 for every other node.
+fn ends(file: &[u8], t: Trailer, table: &mut [u32])
     requires { ⌜ Laid (now file) t ⌝ }
-    ensures { λ r. ⌜ r ≡ least (λ j. Graphs.returns (loopAt (now (file .entry)) t j) u v) (t .loops) ⌝ }
+    requires { ⌜ Looped (caseOf (now file) t) ⌝ }
+    requires { ⌜ 1024 ≤ length (now table) ⌝ }
+    ensures { λ r. ⌜ Holds (λ v. Greatest.endTo (caseOf (now (file .entry)) t) v (t .loops)) (t .nodes) (now (table .exit)) ⌝ }
 {
+    fill(table, 0, t.nodes as usize, 0);
     let mut j: u16 = 0;
     while j < t.loops {
-        if returns_to(layout::loop_at(file, t, j), u, v) {
-            return j;
-        }
+        let l = layout::loop_at(file, t, j);
+        fill(
+            table,
+            l.first as usize,
+            l.first as usize + 1,
+            l.last as u32 + 1,
+        );
         j += 1;
     }
-    j
 }
 
-fn bad_return(file: &[u8], t: Trailer, i: u16) -> bool
+// The least edge that goes back to no header around its source, or their number.
+fn first_return(file: &[u8], t: Trailer, table: &[u32]) -> u16
     requires { ⌜ Laid (now file) t ⌝ }
-    requires { ⌜ i < t .edges ⌝ }
-    ensures { λ r. ⌜ r ≡ Graphs.badReturn (caseOf (now (file .entry)) t) i ⌝ }
-{
-    let u = layout::from_at(file, t, i);
-    let v = layout::to_at(file, t, i);
-    (v <= u) & !(returned(file, t, u, v) < t.loops)
-}
-
-// The least edge that breaks rule 9, or their number.
-fn rule_9(file: &[u8], t: Trailer) -> u16
-    requires { ⌜ Laid (now file) t ⌝ }
+    requires { ⌜ Edged (caseOf (now file) t) ⌝ }
+    requires { ⌜ Holds (λ v. Greatest.endTo (caseOf (now file) t) v (t .loops)) (t .nodes) (now table) ⌝ }
     ensures { λ r. ⌜ r ≡ least (Graphs.badReturn (caseOf (now (file .entry)) t)) (t .edges) ⌝ }
 {
     let mut i: u16 = 0;
     while i < t.edges {
-        if bad_return(file, t, i) {
+        let u = layout::from_at(file, t, i);
+        let v = layout::to_at(file, t, i);
+        if (v <= u) & (table[v as usize] <= u as u32) {
             return i;
         }
         i += 1;
@@ -193,53 +202,69 @@ fn rule_9(file: &[u8], t: Trailer) -> u16
     i
 }
 
-// l's factor in v's count
-fn factor(l: Loop, v: u16) -> u32
-    ensures { λ r. ⌜ r ≡ cond (Cases.inside l v) (l .bound) 1 ⌝ }
-{
-    if inside(l, v) { l.bound } else { 1 }
-}
-
-fn times(a: u64, b: u32) -> u64
-    requires { ⌜ a ≤ 4294967296 ⌝ }
-    ensures { λ r. ⌜ r ≡ min (a * b) 4294967296 ⌝ }
-{
-    let p = a * (b as u64);
-    if p < 4294967296 { p } else { 4294967296 }
-}
-
-// The count of v, and 4294967296 where it is more.
-fn count_of(file: &[u8], t: Trailer, v: u16) -> u64
+// The least edge that breaks rule 9, or their number.
+fn rule_9(file: &[u8], t: Trailer, table: &mut [u32]) -> u16
     requires { ⌜ Laid (now file) t ⌝ }
-    ensures { λ r. ⌜ r ≡ min (Graphs.count (caseOf (now (file .entry)) t) v) 4294967296 ⌝ }
+    requires { ⌜ Edged (caseOf (now file) t) ⌝ }
+    requires { ⌜ Looped (caseOf (now file) t) ⌝ }
+    requires { ⌜ 1024 ≤ length (now table) ⌝ }
+    ensures { λ r. ⌜ r ≡ least (Graphs.badReturn (caseOf (now (file .entry)) t)) (t .edges) ⌝ }
 {
-    let mut p: u64 = 1;
+    ends(file, t, table);
+    first_return(file, t, table)
+}
+
+// The product as a table holds it: 0 where it is too large, and from then on.
+fn times(a: u32, b: u32) -> u32
+    ensures { λ r. ⌜ r ≡ shown (a * b) ⌝ }
+{
+    let p = (a as u64) * (b as u64);
+    if 4294967295 < p { 0 } else { p as u32 }
+}
+
+// Each node's count: the loops before have the same part in the counts of all of a loop's nodes.
+fn counted(file: &[u8], t: Trailer, table: &mut [u32])
+    requires { ⌜ Laid (now file) t ⌝ }
+    requires { ⌜ Looped (caseOf (now file) t) ⌝ }
+    requires { ⌜ 1024 ≤ length (now table) ⌝ }
+    ensures { λ r. ⌜ Holds (λ v. shown (Graphs.count (caseOf (now (file .entry)) t) v)) (t .nodes) (now (table .exit)) ⌝ }
+{
+    fill(table, 0, t.nodes as usize, 1);
     let mut j: u16 = 0;
     while j < t.loops {
-        p = times(p, factor(layout::loop_at(file, t, j), v));
+        let l = layout::loop_at(file, t, j);
+        let p = times(table[l.first as usize], l.bound);
+        fill(table, l.first as usize, l.last as usize + 1, p);
         j += 1;
     }
-    p
 }
 
-// The least node that breaks rule 10, or their number; the counts before it are written.
-fn rule_10(file: &[u8], t: Trailer, counts: &mut [u32]) -> u16
-    requires { ⌜ Laid (now file) t ⌝ }
-    requires { ⌜ 1024 ≤ length (now counts) ⌝ }
-    ensures { λ r. ⌜ r ≡ least (Graphs.badCount (caseOf (now (file .entry)) t)) (t .nodes) ⌝ }
-    ensures { λ r. ⌜ length (now (counts .exit)) ≡ length (now (counts .entry)) ⌝ }
-    ensures { λ r. ⌜ (t .nodes ≤ r → Counted (now (file .entry)) t (now (counts .exit))) ⌝ }
+// The least node whose count is too large, or their number.
+fn first_zero(t: Trailer, table: &[u32]) -> u16
+    requires { ⌜ t .nodes ≤ length (now table) ⌝ }
+    ensures { λ r. ⌜ r ≡ least (λ v. eqb (getD (now (table .entry)) v 0) 0) (t .nodes) ⌝ }
 {
+    let n = t.nodes;
     let mut v: u16 = 0;
-    while v < t.nodes {
-        let p = count_of(file, t, v);
-        if 4294967295 < p {
+    while v < n {
+        if table[v as usize] == 0 {
             return v;
         }
-        counts[v as usize] = p as u32;
         v += 1;
     }
     v
+}
+
+// The least node that breaks rule 10, or their number.
+fn rule_10(file: &[u8], t: Trailer, counts: &mut [u32]) -> u16
+    requires { ⌜ Laid (now file) t ⌝ }
+    requires { ⌜ Looped (caseOf (now file) t) ⌝ }
+    requires { ⌜ 1024 ≤ length (now counts) ⌝ }
+    ensures { λ r. ⌜ r ≡ least (Graphs.badCount (caseOf (now (file .entry)) t)) (t .nodes) ⌝ }
+    ensures { λ r. ⌜ (t .nodes ≤ r → Counted (now (file .entry)) t (now (counts .exit))) ⌝ }
+{
+    counted(file, t, counts);
+    first_zero(t, counts)
 }
 
 pub fn graph_rules(file: &[u8], t: Trailer, counts: &mut [u32]) -> Verdict
@@ -257,11 +282,11 @@ pub fn graph_rules(file: &[u8], t: Trailer, counts: &mut [u32]) -> Verdict
     if looped < t.loops {
         return Verdict::Refused(paper::refuse(7, looped as usize));
     }
-    let forward = rule_8(file, t);
+    let forward = rule_8(file, t, counts);
     if forward < t.edges {
         return Verdict::Refused(paper::refuse(8, forward as usize));
     }
-    let back = rule_9(file, t);
+    let back = rule_9(file, t, counts);
     if back < t.edges {
         return Verdict::Refused(paper::refuse(9, back as usize));
     }

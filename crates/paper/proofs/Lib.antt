@@ -11,3 +11,6 @@ pub mod RowLaws
 pub mod FactLaws
 pub mod VerdictLaws
 pub mod Numbers
+pub mod Lines
+pub mod Masks
+pub mod Moves

@@ -13,3 +13,5 @@ pub mod Files
 pub mod Verdicts
 pub mod Demands
 pub mod Checked
+pub mod NextBits
+pub mod Ready

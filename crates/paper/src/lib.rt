@@ -2,6 +2,12 @@
 ghost use mathlib.Core.Path.{_≡_};
 ghost use Rattle.paper.specs.Answers as Answers;
 
+mod methods;
+
+pub use methods::fifo_lines;
+pub use methods::lru_lines;
+pub use methods::nmru_lines;
+
 // "Addresses, block numbers and set numbers, which the sources distinguish, are each kept apart."
 pub struct Address(pub u32);
 
@@ -18,6 +24,12 @@ pub struct SetState {
 // A machine's step: the new state, and whether the access hit.
 pub struct Stepped {
     pub state: SetState,
+    pub hit: bool,
+}
+
+// An NMRU step on lines where they lie: the new bits, and whether the access hit.
+pub struct Marked {
+    pub bits: u8,
     pub hit: bool,
 }
 

@@ -1,5 +1,5 @@
 use borrow.Author.Needs.{needs}
-use Rattle.bolgverk.proofs.Judging.{graph-refused, loops-fit, facts-refused, case-sound, facts-placed, judged}
+use Rattle.bolgverk.proofs.Judging.{graph-refused, edges-ordered, loops-fit, facts-refused, case-sound, facts-placed, judged}
 use Rattle.bolgverk.proofs.judge.Statement.{statement}
 use Rattle.bolgverk.proofs.judge.Tie as tie
 
@@ -8,7 +8,9 @@ returns c = graph-refused _ _ _ (c .before .before .before .before .graph-rules 
 
 fact-rules-requires : tie.Need-fact-rules-requires
 fact-rules-requires c κs =
-    record { 0 = c .before .before .before .before .before .before .before .pre .0; 1 = loops-fit _ _ _ (c .before .before .before .graph-rules .ensures .0) (c .enum-told .given .1) }
+    let a = c .before .before .before .graph-rules .ensures .0 in
+    let e = c .enum-told .given .1 in
+    record { 0 = c .before .before .before .before .before .before .before .pre .0; 1 = record { 0 = edges-ordered _ _ _ a e; 1 = loops-fit _ _ _ a e } }
 
 returns-2 : tie.Need-returns-2
 returns-2 c =

@@ -1,6 +1,5 @@
 use Prim.Native.Nat.{_-_}
 use mathlib.Core.Path.{refl, _∙_, ap}
-use native.Mathlib.Omega.{arith}
 use borrow.Author.Needs.{needs}
 use Rattle.paper.specs.declared.Verdict.the-variants.{Refused}
 use Rattle.paper.specs.Verdicts.{badFact}
@@ -22,7 +21,7 @@ loop-holds c = (passed-start _ _, first-turn _ _ (c .before .before .before .bef
 judge-requires : tie.Need-judge-requires Inv-loop μ-loop
 judge-requires c κs =
     let a = c .before .before in
-    (search needs, (search needs, a .loop .inv .1))
+    (search needs, (search needs, (search needs, a .loop .inv .1)))
 
 returns : tie.Need-returns Inv-loop μ-loop
 returns c =

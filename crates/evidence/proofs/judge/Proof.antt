@@ -9,7 +9,7 @@ use Rattle.evidence.proofs.judge.Tie as tie
 
 returns : tie.Need-returns
 returns c =
-    let g = c .before .before .before .pre .1 .1 in
+    let g = c .before .before .before .pre .1 .1 .1 in
     broken _ _ _ _ (g .here) _ 11 (ap (λ (r : Judged). r .number) (c .told .ensures)) (λ z. absurd (omega arith))
     (rule-is _ _ _ _ (g .here) true _ _ _ (short _ _ (g .room) (c .before .if1 .taken)) refl refl refl)
 
@@ -18,7 +18,7 @@ returns-2 c =
     let l = c .before .before .before .before in
     let b = l .before in
     let w = b .before in
-    let g = w .before .before .before .pre .1 .1 in
+    let g = w .before .before .before .pre .1 .1 .1 in
     broken _ _ _ _ (g .here) _ 12 (ap (λ (r : Judged). r .number) (c .told2 .ensures)) (λ z. absurd (omega arith))
     (rule-is _ _ _ _ (g .here) false true _ _ (roomy _ _ (g .room) (w .before .if1 .left))
     (sym (c .before .if2 .taken) ∙ head-test _ _ _ _ _ _ (w .u16-at .ensures) (b .u16-at2 .ensures) (l .u16-at3 .ensures)) refl refl)
@@ -36,10 +36,10 @@ returns-3 c =
     let b = l .before in
     let w = b .before in
     let p = w .before .before .before .pre in
-    let g = p .1 .1 in
+    let g = p .1 .1 .1 in
     let e = c .before .before .before .before .if2 .left in
     let s =
-    stands _ _ _ _ _ _ (w .u16-at .ensures) (b .u16-at2 .ensures) (l .u16-at3 .ensures) (p .0) (p .1 .0) e _
+    stands _ _ _ _ _ _ (w .u16-at .ensures) (b .u16-at2 .ensures) (l .u16-at3 .ensures) (p .0) (p .1 .1 .0) e _
     (c .before .before .before .range-at .ensures) in
     broken _ _ _ _ (g .here) _ 13 (ap (λ (r : Judged). r .number) (c .told3 .ensures)) (λ z. absurd (omega arith))
     (rule-is _ _ _ _ (g .here) false false true _ (roomy _ _ (g .room) (w .before .if1 .left))
@@ -54,9 +54,12 @@ weigh-requires c κs =
     let p = w .before .before .before .pre in (
       p .0,
       (
-        stands _ _ _ _ _ _ (w .u16-at .ensures) (b .u16-at2 .ensures) (l .u16-at3 .ensures) (p .0) (p .1 .0)
-            (c .before .before .before .before .if2 .left) _ (c .before .before .before .range-at .ensures),
-        omega (arith, p .1 .1 .room, w .before .if1 .left),
+        p .1 .0,
+        (
+          stands _ _ _ _ _ _ (w .u16-at .ensures) (b .u16-at2 .ensures) (l .u16-at3 .ensures) (p .0) (p .1 .1 .0)
+              (c .before .before .before .before .if2 .left) _ (c .before .before .before .range-at .ensures),
+          omega (arith, p .1 .1 .1 .room, w .before .if1 .left),
+        ),
       ),
     )
 
@@ -66,10 +69,10 @@ returns-4 c =
     let b = l .before in
     let w = b .before in
     let p = w .before .before .before .pre in
-    let g = p .1 .1 in
+    let g = p .1 .1 .1 in
     let e = c .before .before .before .before .before .if2 .left in
     let s =
-    stands _ _ _ _ _ _ (w .u16-at .ensures) (b .u16-at2 .ensures) (l .u16-at3 .ensures) (p .0) (p .1 .0) e _
+    stands _ _ _ _ _ _ (w .u16-at .ensures) (b .u16-at2 .ensures) (l .u16-at3 .ensures) (p .0) (p .1 .1 .0) e _
     (c .before .before .before .before .range-at .ensures) in
     judges _ _ _ _ (g .here) _ _ refl s (c .weigh .ensures)
     (rule-is _ _ _ _ (g .here) false false false _ (roomy _ _ (g .room) (w .before .if1 .left))

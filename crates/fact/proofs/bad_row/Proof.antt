@@ -1,10 +1,6 @@
-use Prim.Native.Nat.{_+_, _*_, _≤_, _<_}
-use mathlib.Core.Path.{_≡_, _∙_, ap}
+use mathlib.Core.Path.{_∙_}
 use native.Mathlib.Omega.{arith}
 use borrow.Author.Needs.{needs}
-use Rattle.paper.specs.Files.{rowAt, caseOf}
-use Rattle.paper.specs.Facts.{badRow, badRowAt}
-use Rattle.fact.specs.Stands.{factOf}
 use Rattle.fact.proofs.OneRow.{row-high, row-other, row-long, row-block, row-set}
 use Rattle.fact.proofs.Scopes.{row-is, limit-low, limit-high}
 use Rattle.fact.proofs.bad_row.Statement.{statement}

@@ -1,7 +1,6 @@
 use Prim.Native.Nat.{_-_}
 use borrow.Author.Needs.{needs}
 use borrow.Author.Tests.{eq-eqb, ne-eqb}
-use mathlib.Core.Path.{refl, sym}
 use Rattle.paper.specs.Files.{rowAt}
 use Rattle.paper.proofs.Least.{Passed, passed-start}
 use Rattle.fact.proofs.Looks.{passed-at}

@@ -1,0 +1,110 @@
+// The public operations under C names. include/bolgverk.h says the same to a C compiler.
+// A slice passes as a pointer and a length, a number to be written as a pointer. No function has a `requires`.
+ghost use Rattle.exports.specs.Calls.{CheckCall, TraceCall, StepCall, BlockCall, SetCall};
+use paper::Address;
+use paper::Block;
+use paper::BlockAnswer;
+use paper::Outcome;
+use paper::SetAnswer;
+use paper::SetState;
+use paper::TraceAnswer;
+use paper::Verdict;
+
+// The refusal's number, 0 where the file is accepted; `place` gets the refusal's place, or 0.
+#[no_mangle]
+pub extern "C" fn bolgverk_check(file: &[u8], numbers: &mut [u64], place: &mut u64) -> u8
+    ensures { λ r. ⌜ CheckCall (now (file .entry)) (now (numbers .entry)) r (now (place .exit)) (now (numbers .exit)) ⌝ }
+{
+    match bolgverk::check(file, numbers) {
+        Verdict::Accepted => {
+            *place = 0;
+            0
+        }
+        Verdict::Refused(why) => {
+            *place = why.place as u64;
+            why.number
+        }
+    }
+}
+
+// The refusal's number, or 0; `place` gets the refusal's place, or 0; `misses` is written where nothing is refused.
+#[no_mangle]
+pub extern "C" fn bolgverk_trace_run(
+    policy: u8,
+    ways: u8,
+    sets: u8,
+    blocks: &[u16],
+    marks: &mut [u8],
+    misses: &mut u64,
+    place: &mut u64,
+) -> u8
+    ensures { λ r. ⌜ TraceCall policy ways sets (now (blocks .entry)) (now (marks .entry)) (now (misses .entry)) r (now (misses .exit)) (now (place .exit)) (now (marks .exit)) ⌝ }
+{
+    match bolgverk::trace_run(policy, ways, sets, blocks, marks) {
+        TraceAnswer::Misses(count) => {
+            *misses = count as u64;
+            *place = 0;
+            0
+        }
+        TraceAnswer::Refused(why) => {
+            *place = why.place as u64;
+            why.number
+        }
+    }
+}
+
+// 0 for a hit, 1 for a miss, else the refusal's number; the state is changed in place, or left as it was.
+#[no_mangle]
+pub extern "C" fn bolgverk_step(
+    policy: u8,
+    ways: u8,
+    lines: &mut [u16; 8],
+    bits: &mut u8,
+    block: u16,
+) -> u8
+    ensures { λ r. ⌜ StepCall policy ways (now (lines .entry)) (now (bits .entry)) block r (now (lines .exit)) (now (bits .exit)) ⌝ }
+{
+    let given = SetState {
+        lines: *lines,
+        bits: *bits,
+    };
+    let answer = bolgverk::step(policy, ways, given, Block(block));
+    let state = answer.state;
+    let next = state.lines;
+    *lines = next;
+    *bits = state.bits;
+    let outcome = answer.outcome;
+    match outcome {
+        Outcome::Hit => 0,
+        Outcome::Miss => 1,
+        Outcome::Refused(why) => why.number,
+    }
+}
+
+// The refusal's number, or 0, and then `block` is the address's.
+#[no_mangle]
+pub extern "C" fn bolgverk_block_of(address: u32, line_size: u32, block: &mut u16) -> u8
+    ensures { λ r. ⌜ BlockCall address «line_size» (now (block .entry)) r (now (block .exit)) ⌝ }
+{
+    match bolgverk::block_of(Address(address), line_size) {
+        BlockAnswer::Found(found) => {
+            *block = found.0;
+            0
+        }
+        BlockAnswer::Refused(why) => why.number,
+    }
+}
+
+// The refusal's number, or 0, and then `set` is the block's.
+#[no_mangle]
+pub extern "C" fn bolgverk_set_of(block: u16, sets: u8, set: &mut u8) -> u8
+    ensures { λ r. ⌜ SetCall block sets (now (set .entry)) r (now (set .exit)) ⌝ }
+{
+    match bolgverk::set_of(Block(block), sets) {
+        SetAnswer::Found(found) => {
+            *set = found.0;
+            0
+        }
+        SetAnswer::Refused(why) => why.number,
+    }
+}

@@ -1,0 +1,23 @@
+-- Tables over the nodes: what one holds, and a part of one filled with a number. Assumes nothing.
+use Prim.Native.Nat.{ℕ, _≤_, _<_}
+use mathlib.Core.Path.{_≡_}
+use mathlib.Core.Bool.{cond}
+use mathlib.Core.List.{List}
+use lib.Dec.{ltb}
+use lib.ListN.{length, getD}
+
+-- the places from a to before z hold x, the others what they held
+pub record Filled (old new : List ℕ) (a z x : ℕ) : Type 0 where
+  pub same : length new ≡ length old
+  pub below : (k : ℕ) → k < a → getD new k 0 ≡ getD old k 0
+  pub within : (k : ℕ) → a ≤ k → k < z → getD new k 0 ≡ x
+  pub above : (k : ℕ) → z ≤ k → getD new k 0 ≡ getD old k 0
+
+-- the first n places hold g's values
+pub record Holds (g : ℕ → ℕ) (n : ℕ) (l : List ℕ) : Type 0 where
+  pub room : n ≤ length l
+  pub at : (v : ℕ) → v < n → getD l v 0 ≡ g v
+
+-- A count as a table of 32-bit numbers holds it: 0 where it is too large.
+unfoldable pub shown : ℕ → ℕ
+shown p = cond (ltb 4294967295 p) 0 p

@@ -1,0 +1,3 @@
+pub mod Kept
+pub mod Offered
+pub mod Search

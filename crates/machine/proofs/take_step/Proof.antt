@@ -1,0 +1,36 @@
+-- `machine::take_step` meets its contract. Assumes nothing.
+use native.Mathlib.Omega.{arith}
+use borrow.Author.Needs.{needs}
+use mathlib.Core.Path.{sym, _∙_}
+use borrow.Author.Tests.{eq-eqb, ne-eqb}
+use Rattle.paper.specs.Machines.{step}
+use Rattle.machine.proofs.Offered.{policy-low, legal-ready, nmru-bits}
+use Rattle.machine.proofs.take_step.Statement.{statement}
+use Rattle.machine.proofs.take_step.Tie as tie
+
+lru-requires : tie.Need-lru-requires
+lru-requires c κs = legal-ready _ _ _ (c .before .pre .1) (c .before .pre .0)
+
+returns : tie.Need-returns
+unfolding step
+returns c = c .lru .ensures ∙ sym (rw (eq-eqb _ _ (c .before .if1 .taken)))
+
+fifo-requires : tie.Need-fifo-requires
+fifo-requires c κs = legal-ready _ _ _ (c .before .before .pre .1) (c .before .before .pre .0)
+
+returns-2 : tie.Need-returns-2
+unfolding step
+returns-2 c = c .fifo .ensures ∙ sym (rw (ne-eqb _ _ (c .before .before .if1 .left), eq-eqb _ _ (c .before .if2 .taken)))
+
+nmru-requires : tie.Need-nmru-requires
+nmru-requires c κs =
+    let s = c .before .before .before .before in
+    (legal-ready _ _ _ (s .pre .1) (s .pre .0), (nmru-bits _ _ _ (s .pre .1) (omega (arith, policy-low _ _ (s .pre .0))), c .before .next-bits .ensures))
+
+returns-3 : tie.Need-returns-3
+unfolding step
+returns-3 c = c .nmru .ensures ∙ sym (rw (ne-eqb _ _ (c .before .before .before .before .if1 .left), ne-eqb _ _ (c .before .before .before .if2 .left)))
+
+pub take-step-spec : {M : Type 1} → statement M
+take-step-spec =
+    tie.close (tie.spec lru-requires returns fifo-requires returns-2 (λ c κs. search needs) nmru-requires returns-3)

@@ -1,0 +1,12 @@
+-- `machine::took` meets its contract. Assumes nothing.
+use Rattle.machine.proofs.took.Statement.{statement}
+use Rattle.machine.proofs.took.Tie as tie
+
+returns : tie.Need-returns
+returns c = rw (c .if1 .taken)
+
+returns-2 : tie.Need-returns-2
+returns-2 c = rw (c .if1 .left)
+
+pub took-spec : {M : Type 1} → statement M
+took-spec = tie.close (tie.spec returns returns-2)

@@ -1,0 +1,90 @@
+-- Laws of the bits: the lowest that is 0, and the mark of an access by shift and mask and by the table. Assumes nothing.
+use Prim.Native.Nat.{ℕ, zero, suc, _+_, _-_, _*_, _/_, _%_, _^_, _<_, _≤_}
+use native.Mathlib.Nat.{one-mul, pow-suc, mod-eq-of-lt, not-suc-le-zero, le-of-suc-le-suc}
+use native.Mathlib.Decide.{ℕ-discrete}
+use native.Mathlib.Omega.{arith}
+use native.Mathlib.Numerals.{unary-clauses}
+use mathlib.Core.Path.{_≡_, refl, sym, _∙_, ap, ap₂}
+use lib.Dec.{lit<}
+use lib.ListN.{getD}
+use lib.Pow.{shl-exact, pow-pos, pow-lt, pow-mono, ones-split, high, ones-lt}
+use lib.Bits.{bitOr, or-lt}
+use lib.Count.{trailingZeros}
+use borrow.Author.Tests.{eq-eqb, ne-eqb}
+use Rattle.paper.specs.Lists.{table}
+use Rattle.paper.specs.Machines.{lowestClear, victim, marked}
+use Rattle.paper.specs.NextBits.{nextBits}
+
+-- not all of the n+1 low digits of p are 1: the lowest that is 0 is the lowest that is 1 of p's complement
+clear-zeros : (n m p : ℕ) → n < m → p + 1 < 2 ^ suc n → p < 2 ^ m → lowestClear n p ≡ trailingZeros m (2 ^ m - 1 - p)
+unfolding lowestClear trailingZeros
+clear-zeros n zero p h g w = absurd (omega arith)
+clear-zeros zero (suc m) p h g w =
+    let e : (2 ^ suc m - 1 - p) % 2 ≡ 1 = omega (arith, pow-suc 2 m, pow-pos m) in
+    rw e
+clear-zeros (suc n) (suc m) p h g w =
+    let d : (2 ^ suc m - 1 - p) / 2 ≡ 2 ^ m - 1 - p / 2 = omega (arith, pow-suc 2 m, pow-pos m) in
+    elim (ℕ-discrete (p % 2) 0) [
+      | yes e ↦
+          let f : (2 ^ suc m - 1 - p) % 2 ≡ 1 = omega (arith, pow-suc 2 m, pow-pos m) in
+          rw (eq-eqb (p % 2) 0 e, f)
+      | no q ↦
+          let f : (2 ^ suc m - 1 - p) % 2 ≡ 0 = omega (arith, pow-suc 2 m, pow-pos m) in
+          rw (ne-eqb (p % 2) 0 q, f, d)
+          (ap suc (clear-zeros n m (p / 2) (omega arith) (omega (arith, pow-suc 2 (suc n))) (omega (arith, pow-suc 2 m))))
+    ]
+
+clear-low : (n p : ℕ) → lowestClear n p ≤ n
+unfolding lowestClear
+clear-low zero p = omega arith
+clear-low (suc n) p =
+    let r = clear-low n (p / 2) in
+    elim (ℕ-discrete (p % 2) 0) [ yes e ↦ rw (eq-eqb (p % 2) 0 e) (omega arith) | no q ↦ rw (ne-eqb (p % 2) 0 q) (omega arith) ]
+
+pub victim-low : (k p : ℕ) → 0 < k → victim k p < k
+unfolding victim
+victim-low k p h = omega (arith, clear-low (k - 1) p)
+
+pub victim-zeros : (k p : ℕ) → 0 < k → k ≤ 8 → p + 1 < 2 ^ k → trailingZeros 32 (2 ^ 32 - 1 - p) ≡ victim k p
+unfolding victim
+victim-zeros zero p l h g = absurd (omega arith)
+victim-zeros (suc n) p l h g =
+    sym (simp unary-clauses (clear-zeros n 32 p (omega arith) g (omega (arith, pow-mono {i = suc n} {j = 32} (omega arith)))))
+
+-- 1 << j, at a type of w bits
+pub one-shl : (j w : ℕ) → j < w → (1 * 2 ^ j) % 2 ^ w ≡ 2 ^ j
+one-shl j w h = shl-exact 1 j w (lit< tt) (omega arith) ∙ one-mul (2 ^ j)
+
+-- the low k bits are 1
+pub full-is : (k : ℕ) → k ≤ 8 → 255 / 2 ^ (8 - k) ≡ 2 ^ k - 1
+full-is k h =
+    let e : k + (8 - k) ≡ 8 = omega arith in
+    let f : 255 ≡ (2 ^ k - 1) * 2 ^ (8 - k) + (2 ^ (8 - k) - 1) = sym (ap (λ (n : ℕ). 2 ^ n - 1) e) ∙ ones-split k (8 - k) in
+    ap (λ (n : ℕ). n / 2 ^ (8 - k)) f ∙ high (2 ^ k - 1) (8 - k) (ones-lt (8 - k))
+
+module _ (k p j : ℕ) (h : j < k) (g : p + 1 < 2 ^ k) where
+  set-low : bitOr p (2 ^ j) < 2 ^ k
+  set-low = or-lt k p (2 ^ j) (omega arith) (pow-lt h)
+
+  pub mark-full : bitOr p (2 ^ j) ≡ 2 ^ k - 1 → 2 ^ j ≡ marked k p j
+  unfolding marked
+  mark-full e = rw (mod-eq-of-lt set-low, eq-eqb _ _ e)
+
+  pub mark-more : (bitOr p (2 ^ j) ≡ 2 ^ k - 1 → ⊥) → bitOr p (2 ^ j) ≡ marked k p j
+  unfolding marked
+  mark-more n = rw (mod-eq-of-lt set-low, ne-eqb _ _ n)
+
+-- an entry of a table
+pub table-at : (g : ℕ → ℕ) (n i : ℕ) → i < n → getD (table g n) i 0 ≡ g i
+unfolding table
+table-at g zero i h = absurd (not-suc-le-zero h)
+table-at g (suc n) zero h = refl
+table-at g (suc n) (suc i) h = table-at (λ j. g (suc j)) n i (le-of-suc-le-suc h)
+
+-- pattern p and line j at entry 8p + j
+pub next-at : (p j : ℕ) → p < 256 → j < 8 → getD nextBits (8 * p + j) 0 ≡ marked 8 p j
+unfolding nextBits
+next-at p j h g =
+    let q : (8 * p + j) / 8 ≡ p = omega arith in
+    let r : (8 * p + j) % 8 ≡ j = omega arith in
+    table-at (λ i. marked 8 (i / 8) (i % 8)) 2048 (8 * p + j) (omega arith) ∙ ap₂ (marked 8) q r

@@ -1,0 +1,53 @@
+-- "Trace run: 3, 20, 21." The four answers, and what a run that is not refused may rely on. Assumes nothing.
+use Prim.Native.Nat.{ℕ, _<_, _≤_}
+use native.Mathlib.Omega.{arith}
+use mathlib.Core.Path.{_≡_}
+use mathlib.Core.Bool.{true, false, _&&_}
+use mathlib.Core.List.{List}
+use lib.Dec.{ltb, leb}
+use lib.ListN.{length}
+use borrow.Author.Tests.{lt-ltb, le-ltb, ltb-true, leb-true}
+use Rattle.paper.specs.declared.TraceAnswer.the-variants.{Misses}
+use Rattle.paper.specs.Lists.{least, some}
+use Rattle.paper.specs.Machines.{emptySet, offered, inRange}
+use Rattle.paper.specs.Traces.{refusedRun, badAccess, traceRun}
+use Rattle.paper.proofs.Least.{none-some}
+use Rattle.machine.proofs.Offered.{and-left, and-right}
+use Rattle.trace.specs.Runs.{made, Runs, Ran}
+use Rattle.trace.proofs.Going.{length-marks}
+
+module _ (p w s : ℕ) (bs ms : List ℕ) where
+  pub run-3 : inRange p w s ≡ false → traceRun p w s bs ms ≡ refusedRun 3 0 ms
+  unfolding traceRun
+  run-3 e = rw e
+
+  module _ (e : inRange p w s ≡ true) where
+    pub run-20 : length ms < length bs → traceRun p w s bs ms ≡ refusedRun 20 0 ms
+    unfolding traceRun
+    run-20 h = rw (e, lt-ltb (length ms) (length bs) h)
+
+    module _ (h : length bs ≤ length ms) (j : ℕ) (f : j ≡ least (badAccess bs) (length bs)) where
+      pub run-21 : j < length bs → traceRun p w s bs ms ≡ refusedRun 21 j ms
+      unfolding traceRun some
+      run-21 g = rw (e, le-ltb (length ms) (length bs) h, f, lt-ltb (least (badAccess bs) (length bs)) (length bs) (omega arith))
+
+      no-bad : length bs ≤ j → some (badAccess bs) (length bs) ≡ false
+      unfolding some
+      no-bad g = le-ltb (least (badAccess bs) (length bs)) (length bs) (omega arith)
+
+      pub run-took : length bs ≤ j → (misses : ℕ) (out : List ℕ) → Ran p w s bs ms misses out → traceRun p w s bs ms ≡ (record { answer = Misses misses; marks = out })
+      unfolding traceRun made
+      run-took g misses out r =
+          rw (e, le-ltb (length ms) (length bs) h, no-bad g, r .counted, r .written, ← length-marks p w s (λ q. emptySet) bs)
+
+      pub runs : length bs ≤ j → Runs p w s bs ms
+      unfolding inRange
+      runs g =
+          let r = and-right (offered p w) (ltb 0 s && leb s 64) e in
+          record {
+            offers = and-left (offered p w) (ltb 0 s && leb s 64) e;
+            low = ltb-true 0 s (and-left (ltb 0 s) (leb s 64) r);
+            high = leb-true s 64 (and-right (ltb 0 s) (leb s 64) r);
+            room = h;
+            good = none-some (badAccess bs) (length bs) (no-bad g);
+          }
