@@ -20,7 +20,7 @@ use Rattle.graph.proofs.Laws.{accepted-graph, refused-graph}
 use Rattle.fact.specs.Edges.{Ordered}
 use Rattle.evidence.specs.Fits.{Fits}
 use Rattle.evidence.proofs.Known.{ordered, fits}
-use Rattle.charge.specs.Ready.{Placed}
+use Rattle.charge.specs.Placed.{Placed}
 use Rattle.bolgverk.specs.Judged.{Judged}
 
 module _ (f : List ℕ) (t : Trailer) where

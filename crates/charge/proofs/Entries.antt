@@ -1,14 +1,13 @@
 -- A loop's entries are its header's count without its own bound: the loops that contain a header are the loop itself and those strictly around it.
 -- Assumes nothing.
-use Prim.Native.Nat.{ℕ, zero, suc, _+_, _*_, _/_, _≤_, _<_}
+use Prim.Native.Nat.{ℕ, zero, suc, _*_, _/_, _≤_, _<_}
 use native.Mathlib.Omega.{arith}
 use native.Mathlib.Decide.{ℕ-discrete, decLe, decLt}
 use native.Mathlib.Nat.{mul-assoc, mul-comm, div-eq-of-eq-mul-left, le-mul-of-pos-right}
 use mathlib.Core.Path.{_≡_, refl, sym, _∙_, ap, ap₂}
 use mathlib.Core.Logic.{_≢_}
-use mathlib.Core.Bool.{Bool, true, false, cond, _&&_}
+use mathlib.Core.Bool.{Bool, true, false, cond}
 use borrow.Author.Tests.{lt-ltb, le-ltb, le-leb, lt-leb, eq-eqb, ne-eqb}
-use lib.Dec.{eqb, ltb, leb}
 use Rattle.paper.specs.Lists.{productTo}
 use Rattle.paper.specs.Machines.{none}
 use Rattle.paper.specs.Cases.{Case, inside}

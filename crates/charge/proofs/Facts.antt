@@ -1,5 +1,5 @@
 -- The laws of one fact's costs, and of the loop that adds the facts. Assumes nothing.
-use Prim.Native.Nat.{ℕ, zero, suc, _+_, _-_, _*_, _%_, _≤_, _<_, min}
+use Prim.Native.Nat.{ℕ, zero, suc, _+_, _-_, _*_, _%_, _≤_, _<_}
 use native.Mathlib.Omega.{arith}
 use native.Mathlib.Decide.{ℕ-discrete}
 use native.Mathlib.Nat.{div-le-self}
@@ -13,9 +13,9 @@ use lib.Dec.{eqb, ltb}
 use lib.ListN.{length, getD, set, length-set}
 use Rattle.paper.specs.declared.Loop.{Loop}
 use Rattle.paper.specs.declared.Trailer.{Trailer}
-use Rattle.paper.specs.Lists.{sumTo, lowestTo}
+use Rattle.paper.specs.Lists.{lowestTo}
 use Rattle.paper.specs.Machines.{none}
-use Rattle.paper.specs.Cases.{Fact, Case, inside, rangeOf}
+use Rattle.paper.specs.Cases.{Case, inside, rangeOf}
 use Rattle.paper.specs.Graphs.{count, entries}
 use Rattle.paper.specs.Bounds.{g, boundOf, covers, counts, factBound}
 use Rattle.paper.specs.Files.{u16At, endAt, factAt, loopAt, factEnd, factPlace, caseOf}

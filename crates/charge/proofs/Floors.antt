@@ -1,12 +1,12 @@
 -- The law of the loop that takes the least of A and the floors of a set. Assumes nothing.
-use Prim.Native.Nat.{ℕ, suc, _+_, _-_, _*_, _/_, _≤_, _<_, min}
+use Prim.Native.Nat.{ℕ, suc, _+_, _-_, _*_, _≤_, _<_, min}
 use native.Mathlib.Omega.{arith}
 use native.Mathlib.Numerals.{add-one}
-use mathlib.Core.Path.{_≡_, refl, sym, _∙_, ap, ap₂}
+use mathlib.Core.Path.{_≡_, refl, _∙_, ap}
 use mathlib.Core.Logic.{_≢_}
 use mathlib.Core.List.{List}
 use borrow.Author.Tests.{eq-eqb, ne-eqb}
-use lib.ListN.{length, getD}
+use lib.ListN.{getD}
 use Rattle.paper.specs.declared.Trailer.{Trailer}
 use Rattle.paper.specs.Lists.{lowestTo}
 use Rattle.paper.specs.Cases.{Case}
@@ -60,15 +60,15 @@ module _ (f : List ℕ) (t : Trailer) (laid : Laid f t) (sound : Sound (caseOf f
 
   module _ (a m x j : ℕ) (w : Flooring (caseOf f t) q a m x j) (h : j < t .ways) where
     abbrev in-E : ℕ
-    in-E = getD entered (10 * q + j + 1) 0
+    in-E = getD entered (10 * q + (j + 1)) 0
 
     abbrev out : ℕ
-    out = getD spent (10 * q + j + 1) 0
+    out = getD spent (10 * q + (j + 1)) 0
 
     next-M : m + in-E ≡ M (caseOf f t) (suc j) q + out
     unfolding caseOf
     next-M =
-        let z : 10 * q + j + 1 ≡ placeOf q (suc j) = omega arith in
+        let z : 10 * q + (j + 1) ≡ placeOf q (suc j) = omega arith in
         rw (z, w .sum)
         (M-more (caseOf f t) (fact-head f t laid sound) (laid .ways-high) q entered charged fetched spent facts nodes hq j (omega (arith, laid .ways-high)))
 
@@ -81,7 +81,7 @@ module _ (f : List ℕ) (t : Trailer) (laid : Laid f t) (sound : Sound (caseOf f
         omega (
           arith,
           w .small,
-          entered-small f t laid sound (t .facts) entered charged facts (omega arith) (10 * q + j + 1) (omega (arith, facts .limits, laid .ways-high)),
+          entered-small f t laid sound (t .facts) entered charged facts (omega arith) (10 * q + (j + 1)) (omega (arith, facts .limits, laid .ways-high)),
         )
 
     pub next-small : m + in-E - out ≤ 13194139530240

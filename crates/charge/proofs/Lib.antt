@@ -1,3 +1,4 @@
+pub mod Chains
 pub mod Cover
 pub mod Entries
 pub mod Facts
@@ -5,7 +6,6 @@ pub mod Floors
 pub mod Groups
 pub mod Nodes
 pub mod Parts
-pub mod Ranges
 pub mod Sets
 pub mod Starts
 pub mod Sums

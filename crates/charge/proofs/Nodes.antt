@@ -1,21 +1,20 @@
 -- The laws of the loop that adds the nodes. Assumes nothing.
-use Prim.Native.Nat.{ℕ, suc, _+_, _*_, _%_, _≤_, _<_}
+use Prim.Native.Nat.{ℕ, _+_, _*_, _%_, _≤_, _<_}
 use native.Mathlib.Omega.{arith}
-use mathlib.Core.Path.{_≡_, refl, sym, _∙_, subst}
-use mathlib.Core.Bool.{Bool, true, false, cond}
+use mathlib.Core.Path.{_≡_, refl, sym, subst}
+use mathlib.Core.Bool.{cond, not}
 use mathlib.Core.List.{List}
 use lib.Dec.{eqb}
 use lib.ListN.{length, getD, set, length-set}
 use Rattle.paper.specs.declared.Trailer.{Trailer}
 use Rattle.paper.specs.Machines.{none}
-use Rattle.paper.specs.Cases.{Case}
-use Rattle.paper.specs.Graphs.{count}
 use Rattle.paper.specs.Files.{nodeAt, caseOf}
 use Rattle.paper.proofs.Meaning.{Sound}
 use Rattle.layout.specs.Laid.{Laid}
 use Rattle.charge.specs.Ready.{Ready}
-use Rattle.charge.specs.Tables.{weight, lowestLimit, Covered, NodesAdded}
+use Rattle.charge.specs.Tables.{weight, Covered, NodesAdded}
 use Rattle.charge.proofs.Facts.{lowest-high}
+use Rattle.charge.proofs.Sums.{part-low}
 use Rattle.charge.proofs.Tallies.{tallied-more, tallied-low}
 
 -- a loop over the nodes is at node v
@@ -30,14 +29,10 @@ walking-end f t v fetched spent w h =
     let z : v ≡ t .nodes = omega (arith, w .within) in
     subst (λ n. NodesAdded (caseOf f t) n fetched spent) z (w .added)
 
-weight-low : (b : Bool) (x : ℕ) → x ≤ 4294967295 → cond b 0 x ≤ 4294967295
-weight-low true x h = omega arith
-weight-low false x h = h
-
 module _ (f : List ℕ) (t : Trailer) (laid : Laid f t) (sound : Sound (caseOf f t)) where
   weight-small : (v : ℕ) → v < t .nodes → weight (caseOf f t) v ≤ 4294967295
   unfolding weight caseOf
-  weight-small v h = weight-low (eqb (nodeAt f v) none) _ (sound .graph .counts v h)
+  weight-small v h = part-low (not (eqb (nodeAt f v) none)) _ _ (sound .graph .counts v h)
 
   module _ (n : ℕ) (fetched spent : List ℕ) (w : NodesAdded (caseOf f t) n fetched spent) (h : n ≤ t .nodes) where
     pub fetched-small : (j : ℕ) → j < length fetched → getD fetched j 0 ≤ 4398046510080
@@ -55,7 +50,7 @@ module _ (f : List ℕ) (t : Trailer) (c : List ℕ) (r : Ready f t c) where
     limit-low = rw (k .lowest v h) (omega (arith, lowest-high (caseOf f t) (t .facts) v))
 
     pub walking-more :
-        (b q x y z : ℕ) → b ≡ nodeAt f v → x ≡ cond (eqb b none) 0 (getD c v 0) → q ≡ b % t .sets → q < 64
+        (b q x y z : ℕ) → b ≡ nodeAt f v → x ≡ cond (not (eqb b none)) (getD c v 0) 0 → q ≡ b % t .sets → q < 64
         → y ≡ getD fetched q 0 + x → z ≡ getD spent (10 * q + getD cover v 0) 0 + x
         → Walking f t (v + 1) (set fetched q y) (set spent (10 * q + getD cover v 0) z)
     unfolding caseOf weight

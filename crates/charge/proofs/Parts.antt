@@ -1,14 +1,14 @@
 -- The laws of the 321 numbers while they are written: each one fact, one set, and the total. Assumes nothing.
-use Prim.Native.Nat.{ℕ, zero, suc, _+_, _-_, _≤_, _<_}
+use Prim.Native.Nat.{ℕ, _+_, _-_, _≤_, _<_}
 use native.Mathlib.Omega.{arith}
 use native.Mathlib.Decide.{ℕ-discrete, decLt}
-use mathlib.Core.Path.{_≡_, refl, sym, _∙_, ap, ap₂, subst}
+use mathlib.Core.Path.{_≡_, refl, sym, _∙_, ap₂, subst}
 use mathlib.Core.Logic.{_≢_}
 use mathlib.Core.Bool.{Bool, true, false, cond}
 use mathlib.Core.List.{List, _++_}
 use borrow.Author.Tests.{lt-ltb, le-ltb}
 use lib.Dec.{ltb}
-use lib.ListN.{length, getD, take, drop, set, length-set, length-append, length-drop, take-append-drop, List·getD-append}
+use lib.ListN.{length, take, drop, set, length-set, length-append, length-drop, take-append-drop, List·getD-append}
 use lib.Seq.{getD-set-same, getD-set-other, drop-set-lt, ext-getD, getD-take, length-take-le, drop-at}
 use Rattle.paper.specs.Lists.{sumTo, table}
 use Rattle.paper.specs.Cases.{Case}

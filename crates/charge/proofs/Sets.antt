@@ -1,20 +1,19 @@
 -- A, M(l) and the set bound, from the tables of the two passes. Assumes nothing.
-use Prim.Native.Nat.{ℕ, zero, suc, _+_, _-_, _*_, _%_, _≤_, _<_}
+use Prim.Native.Nat.{ℕ, zero, suc, _+_, _-_, _≤_, _<_}
 use native.Mathlib.Omega.{arith}
 use mathlib.Core.Path.{_≡_, refl, sym, _∙_, ap, ap₂}
-use mathlib.Core.Logic.{_≢_}
 use mathlib.Core.Bool.{Bool, true, false, cond, not, _&&_}
 use mathlib.Core.List.{List}
 use borrow.Author.Tests.{le-leb, ne-eqb}
 use lib.Dec.{eqb, leb}
-use lib.ListN.{length, getD}
-use Rattle.paper.specs.Lists.{some, sumTo, lowestTo}
+use lib.ListN.{getD}
+use Rattle.paper.specs.Lists.{lowestTo}
 use Rattle.paper.specs.Machines.{none}
 use Rattle.paper.specs.Cases.{Fact, Case}
 use Rattle.paper.specs.Graphs.{count, entries}
 use Rattle.paper.specs.Bounds.{covers, counts, factBound, lives, uncovered, sumOf, anyFact, A, upTo, M}
 use Rattle.paper.proofs.Meaning.{SoundHead}
-use Rattle.charge.specs.Tables.{Tallied, placeOf, lowestLimit, weight, setOfFact, setOfNode, FactsAdded, NodesAdded}
+use Rattle.charge.specs.Tables.{placeOf, lowestLimit, weight, setOfFact, setOfNode, FactsAdded, NodesAdded}
 use Rattle.charge.proofs.Cover.{covered-is}
 use Rattle.charge.proofs.Facts.{lowest-high}
 use Rattle.charge.proofs.Groups as Groups
@@ -55,7 +54,7 @@ module _ (e : Case) (heads : (i : ℕ) → i < e .facts → SoundHead e (e .fact
 
     -- the nodes that no fact covers whose limit is at most l
     module _ (test : Fact → Bool) (l : ℕ) (small : l < 9) (agree : (i : ℕ) → i < e .facts → test (e .fact i) ≡ leb (e .fact i .limit) l) where
-      pick : (n s c : Bool) (x : ℕ) → cond ((not n && s) && not c) x 0 ≡ cond (s && not c) (cond n 0 x) 0
+      pick : (n s c : Bool) (x : ℕ) → cond ((not n && s) && not c) x 0 ≡ cond (s && not c) (cond (not n) x 0) 0
       pick true true true x = refl
       pick true true false x = refl
       pick true false c x = refl

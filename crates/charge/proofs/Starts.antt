@@ -1,13 +1,22 @@
--- The tables before the passes: nothing is covered, and all sums are 0. Assumes nothing.
+-- The tables before the passes: nothing is chained or covered, and all sums are 0. Assumes nothing.
 use Prim.Native.Nat.{ℕ, _≤_}
 use native.Mathlib.Omega.{arith}
 use lib.ListN.{replicate, getD-replicate, length-replicate}
 use Rattle.paper.specs.Lists.{lowestTo}
 use Rattle.paper.specs.Cases.{Case}
-use Rattle.charge.specs.Tables.{lowestLimit, Covered, FactsAdded, NodesAdded}
+use Rattle.charge.specs.Tables.{lastIn, Chained, lowestLimit, Covered, FactsAdded, NodesAdded}
 use Rattle.charge.proofs.Tallies.{tallied-start}
 
 module _ (e : Case) where
+  pub chained-start : Chained e 0 (replicate 2048 0)
+  unfolding lastIn
+  chained-start =
+      record {
+        room = omega (arith, length-replicate {A = ℕ} 2048 0);
+        lasts = λ h l. getD-replicate 2048 h 0 0 (omega arith);
+        befores = λ v l. absurd (omega arith);
+      }
+
   pub covered-start : e .nodes ≤ 1024 → Covered e 0 (replicate 1024 9)
   unfolding lowestLimit lowestTo
   covered-start h =

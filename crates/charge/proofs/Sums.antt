@@ -5,7 +5,6 @@ use native.Mathlib.Nat.{mul-suc}
 use mathlib.Core.Path.{_≡_, refl, sym, _∙_, ap, ap₂}
 use mathlib.Core.Bool.{Bool, true, false, cond}
 use Rattle.paper.specs.Lists.{sumTo}
-use Rattle.paper.proofs.Sums.{Added}
 
 pub sum-same : (F G : ℕ → ℕ) (n : ℕ) → ((j : ℕ) → j < n → F j ≡ G j) → sumTo F n ≡ sumTo G n
 unfolding sumTo
@@ -41,11 +40,7 @@ module _ (F : ℕ → ℕ) where
       let z : a + suc m ≡ suc (a + m) = omega arith in
       ap (sumTo F) z ∙ omega (arith, rest a m (λ j l k. h j l (omega arith)), h (a + m) (omega arith) (omega arith))
 
-  module _ (b n : ℕ) where
-    pub added-after : (a : ℕ) → a ≤ n → ((j : ℕ) → j < a → F j ≡ 0) → Added F b n 0 a
-    added-after a l h = record { within = l; sum = sym (sum-none a h); small = omega arith }
-
-    pub added-before : (x a : ℕ) → Added F b n x a → ((j : ℕ) → a ≤ j → j < n → F j ≡ 0) → x ≡ sumTo F n
-    added-before x a w h =
-        let z : a + (n - a) ≡ n = omega (arith, w .within) in
-        w .sum ∙ sym (rest a (n - a) (λ j l k. h j l (omega arith))) ∙ ap (sumTo F) z
+  pub sum-rest : (a n : ℕ) → a ≤ n → ((j : ℕ) → a ≤ j → j < n → F j ≡ 0) → sumTo F n ≡ sumTo F a
+  sum-rest a n l h =
+      let z : a + (n - a) ≡ n = omega arith in
+      ap (sumTo F) (sym z) ∙ rest a (n - a) (λ j k q. h j k (omega arith))

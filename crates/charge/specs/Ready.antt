@@ -1,15 +1,12 @@
--- What the charge asks of a file besides its layout. Assumes nothing.
-use Prim.Native.Nat.{ℕ, _≤_, _<_}
+-- What the charge asks of a file: it is laid out, sound, and its counts are there. Assumes nothing.
+use Prim.Native.Nat.{ℕ}
 use mathlib.Core.List.{List}
 use Rattle.paper.specs.declared.Trailer.{Trailer}
-use Rattle.paper.specs.Files.{endAt, factEnd, factPlace, caseOf}
+use Rattle.paper.specs.Files.{caseOf}
 use Rattle.paper.proofs.Meaning.{Sound}
 use Rattle.layout.specs.Laid.{Laid}
 use Rattle.layout.specs.Counted.{Counted}
-
--- Each fact's head and rows lie before the trailer.
-pub record Placed (f : List ℕ) (t : Trailer) : Type 0 where
-  pub ends : (i : ℕ) → i < t .facts → factEnd f t (factPlace f t i) ≤ endAt f
+use Rattle.charge.specs.Placed.{Placed}
 
 pub record Ready (f : List ℕ) (t : Trailer) (counts : List ℕ) : Type 0 where
   pub laid : Laid f t

@@ -1,14 +1,14 @@
 -- The tables that the facts and the nodes are added to, one pass each: sums by set, and by set and limit. Assumes nothing.
-use Prim.Native.Nat.{ℕ, suc, _+_, _-_, _*_, _%_, _≤_, _<_, min}
+use Prim.Native.Nat.{ℕ, zero, suc, _+_, _-_, _*_, _%_, _≤_, _<_, min}
 use mathlib.Core.Path.{_≡_}
-use mathlib.Core.Bool.{Bool, cond, _&&_}
-use mathlib.Core.List.{List, _++_}
+use mathlib.Core.Bool.{Bool, cond, not, _&&_}
+use mathlib.Core.List.{List}
 use lib.Dec.{eqb, ltb, leb}
 use lib.ListN.{length, getD, drop}
 use Rattle.paper.specs.declared.Trailer.{Trailer}
 use Rattle.paper.specs.Lists.{sumTo, lowestTo, table}
 use Rattle.paper.specs.Machines.{none}
-use Rattle.paper.specs.Cases.{Fact, Case}
+use Rattle.paper.specs.Cases.{Case}
 use Rattle.paper.specs.Graphs.{count, entries, entriesOf}
 use Rattle.paper.specs.Bounds.{covers, factBound, setBound}
 use Rattle.paper.specs.Files.{u16At, factAt, factEnd, caseOf}
@@ -31,14 +31,6 @@ module _ (e : Case) where
   unfoldable pub entriesIn : ℕ → ℕ
   entriesIn w = cond (eqb w none) 1 (entriesOf e (e .loop w))
 
-  -- what node v adds to the visits of block b: its count, where it fetches b
-  unfoldable pub visitsAt : ℕ → ℕ → ℕ
-  visitsAt b v = cond (eqb (e .block v) b) (count e v) 0
-
-  -- the limit l where node v fetches b; else 9
-  unfoldable pub limitAt : ℕ → ℕ → ℕ → ℕ
-  limitAt b l v = cond (eqb (e .block v) b) l 9
-
   -- the node is one of first to last and fetches b
   unfoldable pub fetchesIn : ℕ → ℕ → ℕ → ℕ → Bool
   fetchesIn first last b v = (leb first v && leb v last) && eqb (e .block v) b
@@ -51,15 +43,30 @@ module _ (e : Case) where
   unfoldable pub lowestLimit : ℕ → ℕ → ℕ
   lowestLimit n v = lowestTo (λ i. cond (covers e (e .fact i) v) (e .fact i .limit) 9) 9 n
 
-  -- what the node adds to its set: its count, and 0 where it fetches none
+  -- what the node adds to its set: its count, where it fetches a block
   unfoldable pub weight : ℕ → ℕ
-  weight v = cond (eqb (e .block v) none) 0 (count e v)
+  weight v = cond (not (eqb (e .block v) none)) (count e v) 0
 
   abbrev pub setOfFact : ℕ → ℕ
   setOfFact i = e .fact i .block % e .sets
 
   abbrev pub setOfNode : ℕ → ℕ
   setOfNode v = e .block v % e .sets
+
+  -- the bucket of a node: its block mod 1,024
+  abbrev pub bucket : ℕ → ℕ
+  bucket v = e .block v % 1024
+
+  -- the last node below n in bucket h, plus 1; 0 where there is none
+  unfoldable pub lastIn : ℕ → ℕ → ℕ
+  lastIn h zero = 0
+  lastIn h (suc n) = cond (eqb (bucket n) h) (suc n) (lastIn h n)
+
+  -- the first n nodes are chained: place h holds the last of bucket h, place 1,024 + v the last before v in its bucket
+  pub record Chained (n : ℕ) (chain : List ℕ) : Type 0 where
+    pub room : 2048 ≤ length chain
+    pub lasts : (h : ℕ) → h < 1024 → getD chain h 0 ≡ lastIn h n
+    pub befores : (v : ℕ) → v < n → getD chain (1024 + v) 0 ≡ lastIn (bucket v) v
 
   -- the limits of the nodes that pass are lowered to l
   pub record Lowered (test : ℕ → Bool) (l : ℕ) (old new : List ℕ) : Type 0 where

@@ -1,22 +1,20 @@
 // The bounds of facts, of sets and in all, by the paper's formulas: one pass over the facts, one over the nodes, one over the sets.
 ghost use mathlib.Core.Path.{_≡_};
-ghost use mathlib.Core.Bool.{cond};
+ghost use mathlib.Core.Bool.{cond, _&&_};
 ghost use mathlib.Core.List.{_++_};
 ghost use mathlib.Core.Logic.{_≢_};
-ghost use Prim.Native.Nat.{ℕ, _+_, _*_, _-_, _%_, _<_, _≤_, min};
-ghost use lib.Dec.{eqb};
+ghost use Prim.Native.Nat.{ℕ, _+_, _-_, _%_, _<_, _≤_, min};
+ghost use lib.Dec.{eqb, leb};
 ghost use lib.ListN.{length, getD, drop};
 ghost use Rattle.paper.specs.Lists.{lowestTo};
 ghost use Rattle.paper.specs.Bounds as Bounds;
-ghost use Rattle.paper.specs.Cases as Cases;
 ghost use Rattle.paper.specs.Files as Files;
-ghost use Rattle.paper.specs.Graphs as Graphs;
 ghost use Rattle.paper.proofs.Meaning.{SoundHead, Sound};
 ghost use Rattle.layout.specs.Laid.{Laid};
-ghost use Rattle.charge.specs.Ready.{Placed, Ready};
 ghost use Rattle.layout.specs.Counted.{Counted};
+ghost use Rattle.charge.specs.Placed.{Placed};
+ghost use Rattle.charge.specs.Ready.{Ready};
 ghost use Rattle.charge.specs.Tables as Tables;
-use paper::Loop;
 use paper::Trailer;
 
 // What a fact costs, and where the next one stands.
@@ -96,69 +94,89 @@ fn block_at(file: &[u8], t: Trailer, v: usize) -> u16
     layout::u16_at(file, 2 * v)
 }
 
-// What node v adds to the visits of block b.
-fn visits_at(file: &[u8], t: Trailer, counts: &[u32], b: u16, v: usize) -> u64
-    requires { ⌜ Ready (now file) t (now counts) ⌝ }
+// Node v, not before the range, is in it and fetches b.
+fn fetches_to(file: &[u8], t: Trailer, last: u16, b: u16, v: usize) -> bool
+    requires { ⌜ Laid (now file) t ⌝ }
     requires { ⌜ v < t .nodes ⌝ }
-    ensures { λ r. ⌜ r ≡ Tables.visitsAt (Files.caseOf (now (file .entry)) t) b v ⌝ }
+    ensures { λ r. ⌜ r ≡ (leb v last && eqb (Files.nodeAt (now (file .entry)) v) b) ⌝ }
+{
+    (v <= last as usize) & (block_at(file, t, v) == b)
+}
+
+fn count_if(hit: bool, count: u32) -> u64
+    ensures { λ r. ⌜ r ≡ cond hit count 0 ⌝ }
     ensures { λ r. ⌜ r ≤ 4294967295 ⌝ }
 {
-    let n = counts[v];
-    if block_at(file, t, v) == b {
-        n as u64
-    } else {
-        0
+    if hit { count as u64 } else { 0 }
+}
+
+fn lower_if(hit: bool, l: u16, old: u16) -> u16
+    ensures { λ r. ⌜ r ≡ min old (cond hit l 9) ⌝ }
+{
+    let x = if hit { l } else { 9 };
+    if x < old { x } else { old }
+}
+
+// The nodes by their blocks mod 1,024: place h holds the last node of bucket h, place 1,024 + v the one before v in its bucket, each plus 1, and 0 where there is none.
+fn chain_nodes(file: &[u8], t: Trailer, chain: &mut [u16])
+    requires { ⌜ Laid (now file) t ⌝ }
+    requires { ⌜ Tables.Chained (Files.caseOf (now file) t) 0 (now chain) ⌝ }
+    ensures { λ r. ⌜ Tables.Chained (Files.caseOf (now (file .entry)) t) (t .nodes) (now (chain .exit)) ⌝ }
+{
+    let n = t.nodes;
+    let mut v: u16 = 0;
+    while v < n {
+        let h = (block_at(file, t, v as usize) % 1024) as usize;
+        chain[1024 + v as usize] = chain[h];
+        chain[h] = v + 1;
+        v += 1;
     }
 }
 
-// N: "the sum of counts of its nodes that fetch b".
-fn visits_in(file: &[u8], t: Trailer, counts: &[u32], first: u16, last: u16, b: u16) -> u64
+// N: "the sum of counts of its nodes that fetch b"; and those nodes are covered by a fact of limit l. Only nodes of b's bucket are looked at.
+fn cover_nodes(
+    file: &[u8],
+    t: Trailer,
+    counts: &[u32],
+    chain: &[u16],
+    first: u16,
+    last: u16,
+    b: u16,
+    l: u16,
+    cover: &mut [u16],
+) -> u64
     requires { ⌜ Ready (now file) t (now counts) ⌝ }
-    requires { ⌜ first ≤ last ⌝ }
-    requires { ⌜ last < t .nodes ⌝ }
+    requires { ⌜ Tables.Chained (Files.caseOf (now file) t) (t .nodes) (now chain) ⌝ }
+    requires { ⌜ 1024 ≤ length (now cover) ⌝ }
+    requires { ⌜ ((v : ℕ) → v < t .nodes → getD (now cover) v 0 ≤ 9) ⌝ }
     ensures { λ r. ⌜ r ≡ Tables.visitsIn (Files.caseOf (now (file .entry)) t) first last b ⌝ }
     ensures { λ r. ⌜ r ≤ 4398046510080 ⌝ }
+    ensures { λ r. ⌜ Tables.Lowered (Files.caseOf (now (file .entry)) t) (Tables.fetchesIn (Files.caseOf (now (file .entry)) t) first last b) l (now (cover .entry)) (now (cover .exit)) ⌝ }
 {
-    let end = last as usize + 1;
-    let mut v = first as usize;
+    let h = (b % 1024) as usize;
     let mut n: u64 = 0;
-    while v < end {
-        n += visits_at(file, t, counts, b, v);
-        v += 1;
+    let mut c: u16 = chain[h];
+    while first < c {
+        let v = (c - 1) as usize;
+        let hit = fetches_to(file, t, last, b, v);
+        n += count_if(hit, counts[v]);
+        cover[v] = lower_if(hit, l, cover[v]);
+        c = chain[1024 + v];
     }
     n
 }
 
-// The lesser of the node's limit and l, where it fetches b.
-fn lowered(file: &[u8], t: Trailer, b: u16, l: u16, v: usize, old: u16) -> u16
-    requires { ⌜ Laid (now file) t ⌝ }
-    requires { ⌜ v < t .nodes ⌝ }
-    ensures { λ r. ⌜ r ≡ min old (Tables.limitAt (Files.caseOf (now (file .entry)) t) b l v) ⌝ }
-{
-    let x = if block_at(file, t, v) == b { l } else { 9 };
-    if x < old { x } else { old }
-}
-
-// The nodes of the range that fetch b are covered by a fact of limit l.
-fn lower(file: &[u8], t: Trailer, first: u16, last: u16, b: u16, l: u16, cover: &mut [u16])
-    requires { ⌜ Laid (now file) t ⌝ }
-    requires { ⌜ first ≤ last ⌝ }
-    requires { ⌜ last < t .nodes ⌝ }
-    requires { ⌜ 1024 ≤ length (now cover) ⌝ }
-    requires { ⌜ ((v : ℕ) → v < t .nodes → getD (now cover) v 0 ≤ 9) ⌝ }
-    ensures { λ r. ⌜ Tables.Lowered (Files.caseOf (now (file .entry)) t) (Tables.fetchesIn (Files.caseOf (now (file .entry)) t) first last b) l (now (cover .entry)) (now (cover .exit)) ⌝ }
-{
-    let end = last as usize + 1;
-    let mut v = first as usize;
-    while v < end {
-        cover[v] = lowered(file, t, b, l, v, cover[v]);
-        v += 1;
-    }
-}
-
 // The fact at p: what it costs; and its nodes are covered.
-fn charge_fact(file: &[u8], t: Trailer, counts: &[u32], p: usize, cover: &mut [u16]) -> Cost
+fn charge_fact(
+    file: &[u8],
+    t: Trailer,
+    counts: &[u32],
+    chain: &[u16],
+    p: usize,
+    cover: &mut [u16],
+) -> Cost
     requires { ⌜ Ready (now file) t (now counts) ⌝ }
+    requires { ⌜ Tables.Chained (Files.caseOf (now file) t) (t .nodes) (now chain) ⌝ }
     requires { ⌜ SoundHead (Files.caseOf (now file) t) (Files.factAt (now file) p) ⌝ }
     requires { ⌜ Files.factEnd (now file) t p ≤ Files.endAt (now file) ⌝ }
     requires { ⌜ 1024 ≤ length (now cover) ⌝ }
@@ -171,8 +189,7 @@ fn charge_fact(file: &[u8], t: Trailer, counts: &[u32], p: usize, cover: &mut [u
     let l = layout::u16_at(file, p + 4);
     let s = layout::range_at(file, t, w);
     let e = entries_of(file, t, counts, w);
-    let n = visits_in(file, t, counts, s.first, s.last, b);
-    lower(file, t, s.first, s.last, b, l, cover);
+    let n = cover_nodes(file, t, counts, chain, s.first, s.last, b, l, cover);
     Cost {
         block: b,
         limit: l,
@@ -197,12 +214,14 @@ fn charge_facts(
     file: &[u8],
     t: Trailer,
     counts: &[u32],
+    chain: &[u16],
     cover: &mut [u16],
     entered: &mut [u64],
     charged: &mut [u64],
     bounds: &mut [u64],
 )
     requires { ⌜ Ready (now file) t (now counts) ⌝ }
+    requires { ⌜ Tables.Chained (Files.caseOf (now file) t) (t .nodes) (now chain) ⌝ }
     requires { ⌜ Tables.Covered (Files.caseOf (now file) t) 0 (now cover) ⌝ }
     requires { ⌜ Tables.FactsAdded (Files.caseOf (now file) t) 0 (now entered) (now charged) ⌝ }
     requires { ⌜ Tables.Part (Files.caseOf (now file) t) 0 0 0 (now bounds) (now bounds) ⌝ }
@@ -215,7 +234,7 @@ fn charge_facts(
     let mut p = 2 * (t.nodes as usize) + 4 * (t.edges as usize) + 8 * (t.loops as usize);
     let mut i: usize = 0;
     while i < n {
-        let c = charge_fact(file, t, counts, p, cover);
+        let c = charge_fact(file, t, counts, chain, p, cover);
         let q = set_of(c.block, t.sets);
         let at = 10 * q + c.limit as usize;
         entered[at] = entered[at] + c.entries;
@@ -224,14 +243,6 @@ fn charge_facts(
         p = c.next;
         i += 1;
     }
-}
-
-// What a node adds to its set.
-fn weight_of(b: u16, count: u32) -> u64
-    ensures { λ r. ⌜ r ≡ cond (eqb b 65535) 0 count ⌝ }
-    ensures { λ r. ⌜ r ≤ 4294967295 ⌝ }
-{
-    if b == 65535 { 0 } else { count as u64 }
 }
 
 // All nodes: their counts by set, and by set and the least limit that covers them.
@@ -252,7 +263,7 @@ fn charge_nodes(
     let mut v: usize = 0;
     while v < n {
         let b = block_at(file, t, v);
-        let x = weight_of(b, counts[v]);
+        let x = count_if(b != 65535, counts[v]);
         let q = set_of(b, t.sets);
         let at = 10 * q + cover[v] as usize;
         fetched[q] = fetched[q] + x;
@@ -261,15 +272,15 @@ fn charge_nodes(
     }
 }
 
-// "floor(k·M(l)/(k-l+1))", for l = j + 1
-fn floor_of(t: Trailer, j: u64, m: u64) -> u64
-    requires { ⌜ j < t .ways ⌝ }
+// "floor(k·M(l)/(k-l+1))"
+fn floor_of(t: Trailer, l: u64, m: u64) -> u64
+    requires { ⌜ l ≤ t .ways ⌝ }
     requires { ⌜ t .ways ≤ 8 ⌝ }
     requires { ⌜ m ≤ 13194139530240 ⌝ }
-    ensures { λ r. ⌜ r ≡ Bounds.floorOf (t .ways) (j + 1) m ⌝ }
+    ensures { λ r. ⌜ r ≡ Bounds.floorOf (t .ways) l m ⌝ }
 {
     let k = t.ways as u64;
-    k * m / (k - j)
+    k * m / (k + 1 - l)
 }
 
 // "the least of A and, for each l from 1 to k, floor(k·M(l)/(k-l+1))": M(l) is M(l-1), with the entries of the facts of limit l for the counts that they cover.
@@ -297,10 +308,11 @@ fn least_floor(
     let mut x = a;
     let mut j: u64 = 0;
     while j < k {
-        let at = 10 * q + j as usize + 1;
+        let l = j + 1;
+        let at = 10 * q + l as usize;
         m = m + entered[at] - spent[at];
-        x = lesser(x, floor_of(t, j, m));
-        j += 1;
+        x = lesser(x, floor_of(t, l, m));
+        j = l;
     }
     x
 }
@@ -381,16 +393,19 @@ pub fn charge(file: &[u8], t: Trailer, counts: &[u32], bounds: &mut [u64])
     requires { ⌜ 321 ≤ length (now bounds) ⌝ }
     ensures { λ r. ⌜ now (bounds .exit) ≡ Bounds.numbers (Files.caseOf (now (file .entry)) t) ++ drop 321 (now (bounds .entry)) ⌝ }
 {
+    let mut chain: [u16; 2048] = [0; 2048];
     let mut cover: [u16; 1024] = [9; 1024];
     let mut entered: [u64; 640] = [0; 640];
     let mut charged: [u64; 64] = [0; 64];
     let mut fetched: [u64; 64] = [0; 64];
     let mut spent: [u64; 640] = [0; 640];
     clear(bounds);
+    chain_nodes(file, t, &mut chain);
     charge_facts(
         file,
         t,
         counts,
+        &chain,
         &mut cover,
         &mut entered,
         &mut charged,

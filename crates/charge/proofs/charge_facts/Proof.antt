@@ -3,38 +3,39 @@ use native.Mathlib.Omega.{arith}
 use mathlib.Core.Path.{_≡_, refl, _∙_}
 use borrow.Author.Needs.{needs}
 use lib.ListN.{length, length-set}
-use Rattle.paper.specs.Files.{caseOf, factPlace}
+use Rattle.paper.specs.Files.{factPlace}
 use Rattle.charge.proofs.Facts.{Adding, head-at, end-at, cover-small, limit-small, entered-small, charged-small, adding-more, adding-end}
 use Rattle.charge.proofs.charge_facts.Statement.{statement}
 use Rattle.charge.proofs.charge_facts.Tie as tie
 
 abbrev Inv-loop : tie.InvT-loop
-Inv-loop file t counts cover₀ entered₀ charged₀ bounds₀ n p₀ i₀ cover entered charged bounds p i =
+Inv-loop file t counts chain cover₀ entered₀ charged₀ bounds₀ n p₀ i₀ cover entered charged bounds p i =
     Adding file t bounds₀ i p cover entered charged bounds
     × (length cover ≡ length cover₀)
     × (length entered ≡ length entered₀)
     × (length charged ≡ length charged₀)
 
 abbrev μ-loop : tie.MeasureT-loop
-μ-loop file t counts cover₀ entered₀ charged₀ bounds₀ n p₀ i₀ cover entered charged bounds p i = n - i
+μ-loop file t counts chain cover₀ entered₀ charged₀ bounds₀ n p₀ i₀ cover entered charged bounds p i = n - i
 
 loop-holds : tie.Need-loop-holds Inv-loop μ-loop
 unfolding factPlace
 loop-holds c =
-    let s = c .before .before .before .before .before .before .before .before .before .before .pre in
-    (record { within = omega arith; place = refl; covered = s .1 .0; added = s .1 .1 .0; part = s .1 .1 .1 .0 }, refl, refl, refl)
+    let s = c .before .before .before .before .before .before .before .before .before .before .before .pre in
+    (record { within = omega arith; place = refl; covered = s .1 .1 .0; added = s .1 .1 .1 .0; part = s .1 .1 .1 .1 .0 }, refl, refl, refl)
 
 charge-fact-requires : tie.Need-charge-fact-requires Inv-loop μ-loop
 charge-fact-requires c κs =
-    let r = c .before .before .before .before .before .before .before .before .before .before .before .before .before .pre .0 in
+    let s = c .before .before .before .before .before .before .before .before .before .before .before .before .before .before .pre in
+    let r = s .0 in
     let w = c .before .before .loop .inv .0 in
     let h = c .before .loop-test .taken in (
       r,
-      (head-at _ _ _ r _ _ h (w .place), (end-at _ _ _ r _ _ h (w .place), (w .covered .nodes, cover-small _ _ _ r _ _ _ _ _ _ _ w))),
+      (s .1 .0, (head-at _ _ _ r _ _ h (w .place), (end-at _ _ _ r _ _ h (w .place), (w .covered .nodes, cover-small _ _ _ r _ _ _ _ _ _ _ w)))),
     )
 
 set-of-requires : tie.Need-set-of-requires Inv-loop μ-loop
-set-of-requires c κs = (c .before .before .before .before .before .before .before .before .before .before .before .before .before .before .before .before .pre .0 .laid .sets-low, c .before .before .before .before .before .before .before .before .before .before .before .before .before .before .before .before .pre .0 .laid .sets-high)
+set-of-requires c κs = (c .before .before .before .before .before .before .before .before .before .before .before .before .before .before .before .before .before .pre .0 .laid .sets-low, c .before .before .before .before .before .before .before .before .before .before .before .before .before .before .before .before .before .pre .0 .laid .sets-high)
 
 -- what bounds the indices: the limit, the set, the lists and the fact
 pub record Indices (c : tie.After-set-of Inv-loop μ-loop) : Type 0 where
@@ -48,7 +49,7 @@ pub record Indices (c : tie.After-set-of Inv-loop μ-loop) : Type 0 where
 at : (c : tie.After-set-of Inv-loop μ-loop) → Indices c
 at c =
     let w = c .before .before .before .before .before .before .loop .inv .0 in
-    let r = c .before .before .before .before .before .before .before .before .before .before .before .before .before .before .before .before .before .pre in
+    let r = c .before .before .before .before .before .before .before .before .before .before .before .before .before .before .before .before .before .before .pre in
     let h = c .before .before .before .before .before .loop-test .taken in
     record {
       limit = limit-small _ _ _ (r .0) _ _ h (w .place) _ (c .before .before .before .charge-fact .ensures .0);
@@ -56,7 +57,7 @@ at c =
       entered = w .added .limits;
       charged = w .added .sets;
       fact = omega (arith, h, r .0 .laid .facts-high);
-      bounds = omega (arith, w .part .room, r .1 .1 .1 .1);
+      bounds = omega (arith, w .part .room, r .1 .1 .1 .1 .1);
     }
 
 add-entered : tie.Need-add-entered Inv-loop μ-loop
@@ -65,7 +66,7 @@ add-entered c =
     let n : 10 * c .before .before .before .set-of .result + c .before .before .before .before .before .before .charge-fact .result .limit < length (c .before .before .before .before .before .before .before .before .before .loop .entered) = omega (arith, s .limit, s .set, s .entered) in
     omega (
       arith,
-      entered-small _ _ (c .before .before .before .before .before .before .before .before .before .before .before .before .before .before .before .before .before .before .before .before .pre .0 .laid) (c .before .before .before .before .before .before .before .before .before .before .before .before .before .before .before .before .before .before .before .before .pre .0 .sound) _ _ _ (c .before .before .before .before .before .before .before .before .before .loop .inv .0 .added) (c .before .before .before .before .before .before .before .before .before .loop .inv .0 .within) _ n,
+      entered-small _ _ (c .before .before .before .before .before .before .before .before .before .before .before .before .before .before .before .before .before .before .before .before .before .pre .0 .laid) (c .before .before .before .before .before .before .before .before .before .before .before .before .before .before .before .before .before .before .before .before .before .pre .0 .sound) _ _ _ (c .before .before .before .before .before .before .before .before .before .loop .inv .0 .added) (c .before .before .before .before .before .before .before .before .before .loop .inv .0 .within) _ n,
       c .before .before .before .before .before .before .charge-fact .ensures .0 .entered-low,
     )
 
@@ -75,7 +76,7 @@ add-charged c =
     let n : c .before .before .before .before .before .set-of .result < length (c .before .before .before .before .before .before .before .before .before .before .before .loop .charged) = omega (arith, s .set, s .charged) in
     omega (
       arith,
-      charged-small _ _ (c .before .before .before .before .before .before .before .before .before .before .before .before .before .before .before .before .before .before .before .before .before .before .pre .0 .laid) (c .before .before .before .before .before .before .before .before .before .before .before .before .before .before .before .before .before .before .before .before .before .before .pre .0 .sound) _ _ _ (c .before .before .before .before .before .before .before .before .before .before .before .loop .inv .0 .added) (c .before .before .before .before .before .before .before .before .before .before .before .loop .inv .0 .within) _ n,
+      charged-small _ _ (c .before .before .before .before .before .before .before .before .before .before .before .before .before .before .before .before .before .before .before .before .before .before .before .pre .0 .laid) (c .before .before .before .before .before .before .before .before .before .before .before .before .before .before .before .before .before .before .before .before .before .before .before .pre .0 .sound) _ _ _ (c .before .before .before .before .before .before .before .before .before .before .before .loop .inv .0 .added) (c .before .before .before .before .before .before .before .before .before .before .before .loop .inv .0 .within) _ n,
       c .before .before .before .before .before .before .before .before .charge-fact .ensures .0 .charged-low,
     )
 
@@ -84,11 +85,11 @@ slice-write-bounds c = let s = at (c .before .before .before .before .before) in
 
 loop-again : tie.Need-loop-again Inv-loop μ-loop
 loop-again c =
-    let r = c .before .before .before .before .before .before .before .before .before .before .before .before .before .before .before .before .before .before .before .before .before .before .pre in
+    let r = c .before .before .before .before .before .before .before .before .before .before .before .before .before .before .before .before .before .before .before .before .before .before .before .pre in
     let w = c .before .before .before .before .before .before .before .before .before .before .before .loop .inv in
     let k = c .before .before .before .before .before .before .before .before .charge-fact .ensures in
     let q = c .before .before .before .before .before .set-of .ensures in (
-      adding-more _ _ _ (r .0) _ _ _ _ _ _ _ (w .0) _ _ _ _ _ (c .before .before .before .before .before .before .before .before .before .before .loop-test .taken) (k .0) (k .1) (q .0) (q .1) refl refl (r .1 .1 .1 .1),
+      adding-more _ _ _ (r .0) _ _ _ _ _ _ _ (w .0) _ _ _ _ _ (c .before .before .before .before .before .before .before .before .before .before .loop-test .taken) (k .0) (k .1) (q .0) (q .1) refl refl (r .1 .1 .1 .1 .1),
       k .1 .room ∙ w .1,
       simp length-set (w .2),
       simp length-set (w .3),

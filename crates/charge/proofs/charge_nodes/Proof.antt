@@ -51,7 +51,7 @@ add-fetched c =
     omega (
       arith,
       fetched-small _ _ (c .before .before .before .before .before .before .before .before .before .before .before .before .before .before .pre .0 .laid) (c .before .before .before .before .before .before .before .before .before .before .before .before .before .before .pre .0 .sound) _ _ _ (c .before .before .before .before .before .before .before .loop .inv .0 .added) (c .before .before .before .before .before .before .before .loop .inv .0 .within) _ n,
-      c .before .before .before .weight-of .ensures .1,
+      c .before .before .before .count-if .ensures .1,
     )
 
 add-spent : tie.Need-add-spent Inv-loop μ-loop
@@ -61,7 +61,7 @@ add-spent c =
     omega (
       arith,
       spent-small _ _ (c .before .before .before .before .before .before .before .before .before .before .before .before .before .before .before .pre .0 .laid) (c .before .before .before .before .before .before .before .before .before .before .before .before .before .before .before .pre .0 .sound) _ _ _ (c .before .before .before .before .before .before .before .before .loop .inv .0 .added) (c .before .before .before .before .before .before .before .before .loop .inv .0 .within) _ n,
-      c .before .before .before .before .weight-of .ensures .1,
+      c .before .before .before .before .count-if .ensures .1,
     )
 
 loop-again : tie.Need-loop-again Inv-loop μ-loop
@@ -69,7 +69,7 @@ loop-again c =
     let r = c .before .before .before .before .before .before .before .before .before .before .before .before .before .before .before .pre in
     let w = c .before .before .before .before .before .before .before .before .loop .inv in
     let q = c .before .before .before .set-of .ensures in (
-      walking-more _ _ _ (r .0) _ _ _ _ (w .0) (c .before .before .before .before .before .before .before .loop-test .taken) (r .1 .0) _ _ _ _ _ (c .before .before .before .before .before .before .block-at .ensures) (c .before .before .before .before .weight-of .ensures .0) (q .0) (q .1) refl refl,
+      walking-more _ _ _ (r .0) _ _ _ _ (w .0) (c .before .before .before .before .before .before .before .loop-test .taken) (r .1 .0) _ _ _ _ _ (c .before .before .before .before .before .before .block-at .ensures) (c .before .before .before .before .count-if .ensures .0) (q .0) (q .1) refl refl,
       simp length-set (w .1),
       simp length-set (w .2),
     )

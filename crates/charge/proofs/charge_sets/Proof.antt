@@ -1,8 +1,7 @@
-use Prim.Native.Nat.{_-_, _≤_, _<_}
+use Prim.Native.Nat.{_-_, _<_}
 use native.Mathlib.Omega.{arith}
 use borrow.Author.Needs.{needs}
 use lib.ListN.{length-set}
-use mathlib.Core.Path.{_∙_}
 use Rattle.paper.specs.Bounds.{setBound}
 use Rattle.paper.specs.Files.{caseOf}
 use Rattle.paper.proofs.Sums.{Added, added-start, added-more}

@@ -22,6 +22,6 @@ clear-spec =
     (λ c. omega (arith, written-length _ _ _ _ _ (c .before .loop .inv)))
     (λ c. omega arith)
     (λ c. omega arith)
-    (λ c. written-more _ _ _ _ _ _ (c .before .loop .inv) (c .loop-test .taken) refl)
+    (λ c. written-more _ _ _ _ _ _ (c .before .loop .inv) (omega (arith, c .loop-test .taken)) refl)
     (λ c. written-length _ _ _ _ _ (c .before .loop .inv))
-    (λ c. written-end _ _ _ _ _ (c .before .loop .inv) (c .loop-test .left)))
+    (λ c. written-end _ _ _ _ _ (c .before .loop .inv) (omega (arith, c .loop-test .left))))

@@ -1,8 +1,7 @@
-use Prim.Native.Nat.{_-_, _*_, _+_, _≤_, _<_}
+use Prim.Native.Nat.{_-_, _*_, _+_, _<_}
 use native.Mathlib.Omega.{arith}
 use mathlib.Core.Path.{refl}
 use borrow.Author.Needs.{needs}
-use lib.ListN.{length}
 use Rattle.paper.specs.Files.{caseOf}
 use Rattle.paper.proofs.Sums.{lowest-end}
 use Rattle.charge.proofs.Floors.{Flooring, flooring-start, out-fits, in-small, next-small, flooring-more}
@@ -21,7 +20,7 @@ loop-holds c =
     flooring-start _ _ (p .0) (p .1 .0) _ _ _ _ (p .1 .1 .0) (p .1 .1 .1 .0) _ (p .1 .1 .1 .1) _
 
 -- the place in the tables
-place : (c : tie.In-loop Inv-loop μ-loop) → 10 * c .before .before .before .before .before .before .before .before .before .args .q + c .before .loop .j + 1 < 640
+place : (c : tie.In-loop Inv-loop μ-loop) → 10 * c .before .before .before .before .before .before .before .before .before .args .q + (c .before .loop .j + 1) < 640
 place c = omega (arith, c .loop-test .taken, c .before .before .before .before .before .before .before .before .before .pre .0 .ways-high, c .before .before .before .before .before .before .before .before .before .pre .1 .1 .1 .1)
 
 add-m : tie.Need-add-m Inv-loop μ-loop
@@ -36,8 +35,9 @@ sub-m c =
 
 floor-of-requires : tie.Need-floor-of-requires Inv-loop μ-loop
 floor-of-requires c κs =
+    let h = c .before .before .loop-test .taken in
     let p = c .before .before .before .before .before .before .before .before .before .before .before .pre in (
-      c .before .before .loop-test .taken,
+      omega (arith, h),
       (p .0 .ways-high, next-small _ _ (p .0) (p .1 .0) _ _ _ _ (p .1 .1 .0) (p .1 .1 .1 .0) _ (p .1 .1 .1 .1) _ _ _ _ (c .before .before .before .loop .inv) (c .before .before .loop-test .taken)),
     )
 
@@ -60,7 +60,7 @@ least-floor-spec =
     (λ c. omega arith)
     (λ c. omega (arith, c .before .before .before .before .before .before .before .pre .1 .1 .1 .0 .sets, c .before .before .before .before .before .before .before .pre .1 .1 .1 .1))
     loop-holds
-    (λ c. omega (arith, c .before .before .before .before .before .before .before .before .before .pre .1 .1 .1 .1))
+    (λ c. omega (arith, place c))
     (λ c. omega (arith, place c))
     (λ c. omega (arith, place c))
     (λ c. omega (arith, place c))
@@ -71,7 +71,6 @@ least-floor-spec =
     sub-m
     floor-of-requires
     (λ c κs. search needs)
-    (λ c. omega (arith, c .before .before .before .before .loop-test .taken, c .before .before .before .before .before .before .before .before .before .before .before .before .before .pre .0 .ways-high))
     (λ c. omega (arith, c .before .before .before .before .loop-test .taken))
     loop-again
     returns)
