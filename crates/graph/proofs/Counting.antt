@@ -60,7 +60,7 @@ module _ (e : Case) where
               rw (shown-large (count e v) m, lt-ltb _ _ m) refl
         ]
 
-    -- what loop j does to the table
+    -- what loop j does to the table, where x is its header's count over the loops up to it
     module _ (j : ℕ) (q : j < e .loops) where
       out : (v : ℕ) → ¬ In (e .loop j) v → shown (countTo e v (j + 1)) ≡ shown (countTo e v j)
       out v n = rw (add-one, count-out e v j n) refl

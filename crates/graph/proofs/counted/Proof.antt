@@ -1,84 +1,74 @@
+use Prim.Native.Nat.{_-_, _≤_}
+use native.Mathlib.Omega.{arith}
+use mathlib.Core.Path.{_≡_, refl, _∙_, ap}
+use borrow.Author.Needs.{needs}
+use lib.ListN.{length}
+use Rattle.paper.specs.Files.{caseOf}
+use Rattle.paper.specs.Graphs.{count}
+use Rattle.loops.specs.Counts.{shown, countTo}
+use Rattle.loops.proofs.Handing.{handed-header}
+use Rattle.graph.specs.Filled.{Holds}
+use Rattle.graph.proofs.Counting.{count-start, count-step}
+use Rattle.graph.proofs.Loops.{fits-at}
+use Rattle.graph.proofs.Filling.{holds-start, holds-end}
 use Rattle.graph.proofs.counted.Statement.{statement}
 use Rattle.graph.proofs.counted.Tie as tie
-use Rattle.graph.proofs.counted.Reads as reads
-use Rattle.graph.proofs.counted.Lts as lts
-use Rattle.graph.proofs.fill.Reads as fill-reads
-use Rattle.loops.proofs.header_count.Reads as header-count-reads
-use Rattle.loops.proofs.loops_of.Reads as loops-of-reads
 
 abbrev Inv-loop : tie.InvT-loop
-Inv-loop file t table₀ loops j₀ table j = ?
+Inv-loop file t table₀ loops j₀ table j =
+    (j ≤ t .loops) × (length table ≡ length table₀) × Holds (λ v. shown (countTo (caseOf file t) v j)) (t .nodes) table
 
 abbrev μ-loop : tie.MeasureT-loop
-μ-loop file t table₀ loops j₀ table j = ?
+μ-loop file t table₀ loops j₀ table j = t .loops - j
 
--- src/lib.rt:225:20
-cast-fill : tie.Need-cast-fill Inv-loop μ-loop
-cast-fill c = ?
-
--- src/lib.rt:225:5
-fill-requires : tie.Need-fill-requires Inv-loop μ-loop
-fill-requires c κs = ?
-
--- src/lib.rt:226:17
-loops-of-requires : tie.Need-loops-of-requires Inv-loop μ-loop
-loops-of-requires c κs = ?
-
--- src/lib.rt:228:5
 loop-holds : tie.Need-loop-holds Inv-loop μ-loop
-loop-holds c = ?
+loop-holds c =
+    let f = c .before .before .before .fill .ensures in
+    (omega arith, refl, holds-start _ f _ refl (omega arith) (omega (arith, c .before .before .before .before .before .before .before .before .pre)) (count-start _))
 
--- src/lib.rt:229:23
-cast-l : tie.Need-cast-l Inv-loop μ-loop
-cast-l c = ?
-
--- src/lib.rt:229:17
-mul-l : tie.Need-mul-l Inv-loop μ-loop
-mul-l c = ?
-
--- src/lib.rt:229:17
 array-copy-out-l : tie.Need-array-copy-out-l Inv-loop μ-loop
-array-copy-out-l c = ?
+array-copy-out-l c =
+    let i = c .before .before in
+    omega (arith, i .before .loops-of .ensures .room, i .before .before .before .before .before .before .before .before .before .pre .0 .loops-high)
 
--- src/lib.rt:230:13
 header-count-requires : tie.Need-header-count-requires Inv-loop μ-loop
-header-count-requires c κs = ?
+header-count-requires c κs =
+    let i = c .before .before .before in
+    omega (arith, i .before .before .before .before .before .before .before .before .before .pre .0 .loops-high)
 
--- src/lib.rt:231:21
-cast-fill-2 : tie.Need-cast-fill-2 Inv-loop μ-loop
-cast-fill-2 c = ?
-
--- src/lib.rt:231:39
-cast-fill-3 : tie.Need-cast-fill-3 Inv-loop μ-loop
-cast-fill-3 c = ?
-
--- src/lib.rt:231:39
-add-fill : tie.Need-add-fill Inv-loop μ-loop
-add-fill c = ?
-
--- src/lib.rt:231:9
 fill-requires-2 : tie.Need-fill-requires-2 Inv-loop μ-loop
-fill-requires-2 c κs = ?
+unfolding caseOf
+fill-requires-2 c κs =
+    let s = c .before .before .before .before .before in
+    let i = s .before .before in
+    let f = fits-at (i .before .before .before .before .before .before .before .before .before .pre .1 .0) _ _ (s .if1 .taken) (i .before .loops-of .ensures .at _ (s .if1 .taken)) in
+    (omega arith, omega (arith, i .loop .inv .2 .room))
 
--- src/lib.rt:232:9
-add-j : tie.Need-add-j Inv-loop μ-loop
-add-j c = ?
-
--- src/lib.rt:228:5
-loop-less : tie.Need-loop-less Inv-loop μ-loop
-loop-less c = ?
-
--- src/lib.rt:228:5
 loop-again : tie.Need-loop-again Inv-loop μ-loop
-loop-again c = ?
+unfolding caseOf
+loop-again c =
+    let f = c .before .before in
+    let p = f .before .before .before .before in
+    let s = p .before .before in
+    let i = s .before .before in
+    let h = i .before .loops-of .ensures in (
+      omega arith,
+      f .fill2 .ensures .same ∙ i .loop .inv .1,
+      count-step _ (i .before .before .before .before .before .before .before .before .before .pre .1 .0) _ (s .if1 .taken) _ (h .at _ (s .if1 .taken)) _ _ _ _
+          (p .header-count .ensures ∙ ap shown (handed-header _ _ _ h _ (s .if1 .taken)))
+          (f .fill2 .ensures)
+          (i .loop .inv .2),
+    )
 
--- src/lib.rt:219:1
 same-length : tie.Need-same-length Inv-loop μ-loop
-same-length c = ?
+same-length c = c .before .before .loop .inv .1 ∙ c .before .before .before .before .before .before .fill .ensures .same
 
--- src/lib.rt:219:1
 returns : tie.Need-returns Inv-loop μ-loop
-returns c = ?
+unfolding caseOf countTo count
+returns c =
+    let i = c .before .before .loop .inv in
+    let a = c .before .before .before .before .before .before .before .before .before .before .before .args in
+    holds-end (λ v j. shown (countTo (caseOf (a .file .now) (a .t)) v j)) _ _ _ _ (i .2) (i .0) (c .if1 .left)
 
 pub counted-spec : {M : Type 1} → statement M
 counted-spec =
@@ -86,20 +76,20 @@ counted-spec =
     (tie.spec
     Inv-loop
     μ-loop
-    cast-fill
-    fill-requires
-    loops-of-requires
+    (λ c. search needs)
+    (λ c κs. search needs)
+    (λ c κs. search needs)
     loop-holds
-    cast-l
-    mul-l
+    (λ c. search needs)
+    (λ c. search needs)
     array-copy-out-l
     header-count-requires
-    cast-fill-2
-    cast-fill-3
-    add-fill
+    (λ c. search needs)
+    (λ c. search needs)
+    (λ c. search needs)
     fill-requires-2
-    add-j
-    loop-less
+    (λ c. search needs)
+    (λ c. search needs)
     loop-again
     same-length
     returns)
