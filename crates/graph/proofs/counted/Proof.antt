@@ -26,16 +26,6 @@ loop-holds c =
     let f = c .before .before .before .fill .ensures in
     (omega arith, refl, holds-start _ f _ refl (omega arith) (omega (arith, c .before .before .before .before .before .before .before .before .pre)) (count-start _))
 
-array-copy-out-l : tie.Need-array-copy-out-l Inv-loop μ-loop
-array-copy-out-l c =
-    let i = c .before .before in
-    omega (arith, i .before .loops-of .ensures .room, i .before .before .before .before .before .before .before .before .before .pre .0 .loops-high)
-
-header-count-requires : tie.Need-header-count-requires Inv-loop μ-loop
-header-count-requires c κs =
-    let i = c .before .before .before in
-    omega (arith, i .before .before .before .before .before .before .before .before .before .pre .0 .loops-high)
-
 fill-requires-2 : tie.Need-fill-requires-2 Inv-loop μ-loop
 unfolding caseOf
 fill-requires-2 c κs =
@@ -82,8 +72,8 @@ counted-spec =
     loop-holds
     (λ c. search needs)
     (λ c. search needs)
-    array-copy-out-l
-    header-count-requires
+    (λ c. search needs)
+    (λ c κs. let i = c .before .before .before in omega (arith, i .before .before .before .before .before .before .before .before .before .pre .0 .loops-high))
     (λ c. search needs)
     (λ c. search needs)
     (λ c. search needs)
