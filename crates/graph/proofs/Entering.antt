@@ -83,7 +83,7 @@ module _ (l : Loop) (v : ℕ) where
   end-has : (x : ℕ) → x < endOf l v → (v ≡ l .first) × (x ≤ l .last)
   end-has x h = elim (ℕ-discrete v (l .first)) [ yes p ↦ (p, omega (arith, end-at p)) | no p ↦ absurd (omega (arith, end-off p)) ]
 
-pub says-same : {P : Type 0} {s t : Bool} → Says P s → Says P t → s ≡ t
+says-same : {P : Type 0} {s t : Bool} → Says P s → Says P t → s ≡ t
 says-same (holds p) (holds q) = refl
 says-same (holds p) (fails n) = absurd (n p)
 says-same (fails n) (holds q) = absurd (n q)

@@ -1,7 +1,6 @@
 -- What rules 6 and 7 give where no edge and no loop breaks them. Assumes nothing.
-use Prim.Native.Nat.{ℕ, zero, suc, _-_, _≤_, _<_}
+use Prim.Native.Nat.{ℕ, _≤_, _<_}
 use native.Mathlib.Omega.{arith}
-use native.Mathlib.Decide.{ℕ-discrete}
 use mathlib.Core.Path.{_≡_}
 use mathlib.Core.Logic.{inl, inr}
 use Rattle.paper.specs.declared.Loop.{Loop}
@@ -10,7 +9,7 @@ use Rattle.paper.specs.Lists.{least}
 use Rattle.paper.specs.Graphs.{badEdge, badLoop}
 use Rattle.paper.proofs.Least.{None, none-some}
 use Rattle.paper.proofs.Says.{says-false}
-use Rattle.paper.proofs.GraphLaws.{BadLoop, edge-says, loop-says}
+use Rattle.paper.proofs.GraphLaws.{edge-says, rises, nested, fits}
 use Rattle.graph.specs.Looped.{Edged, Looped}
 use Rattle.graph.proofs.Laws.{keeps}
 
@@ -25,37 +24,8 @@ module _ (e : Case) where
             (omega arith, omega arith);
       }
 
-  module _ (h : None (badLoop e) (e .loops)) where
-    kept : (j : ℕ) → j < e .loops → ¬ BadLoop e j
-    kept j q = says-false (loop-says e j) .0 (h j q)
-
-    next-rises : (j : ℕ) → suc j < e .loops → e .loop j .first < e .loop (suc j) .first
-    next-rises j q =
-        let z : suc j - 1 ≡ j = omega arith in
-        let n : ¬ (e .loop (suc j) .first ≤ e .loop j .first) = λ p. kept (suc j) q (inr (inr (inr (inr (inl (omega arith, rw z p)))))) in
-        omega arith
-
-    rises : (i j : ℕ) → i < j → j < e .loops → e .loop i .first < e .loop j .first
-    rises i zero l q = absurd (omega arith)
-    rises i (suc j) l q =
-        elim (ℕ-discrete i j) [
-          | yes p ↦ rw p (next-rises j q)
-          | no n ↦ omega (arith, rises i j (omega arith) (omega arith), next-rises j q)
-        ]
-
-    pub looped : Looped e
-    looped =
-        record {
-          fits = λ j q.
-              let a : ¬ (e .loop j .last < e .loop j .first) = λ p. kept j q (inl p) in
-              let b : ¬ (e .nodes ≤ e .loop j .last) = λ p. kept j q (inr (inl p)) in
-              let c : ¬ (e .loop j .bound < 1) = λ p. kept j q (inr (inr (inl p))) in
-              (omega arith, omega arith, omega arith);
-          rises = rises;
-          nested = λ i j l q p.
-              let n : ¬ (e .loop i .last < e .loop j .last) = λ r. kept j q (inr (inr (inr (inr (inr (i, l, (p, r))))))) in
-              omega arith;
-        }
+  pub looped : None (badLoop e) (e .loops) → Looped e
+  looped h = record { fits = fits e h; rises = rises e h; nested = nested e h }
 
 pub fits-at : {e : Case} (w : Looped e) (j : ℕ) (l : Loop) → j < e .loops → l ≡ e .loop j → (l .first ≤ l .last) × (l .last < e .nodes)
 fits-at {e} w j l q p =

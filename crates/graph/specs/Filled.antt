@@ -1,9 +1,7 @@
 -- Tables over the nodes: what one holds, and a part of one filled with a number. Assumes nothing.
 use Prim.Native.Nat.{ℕ, _≤_, _<_}
 use mathlib.Core.Path.{_≡_}
-use mathlib.Core.Bool.{cond}
 use mathlib.Core.List.{List}
-use lib.Dec.{ltb}
 use lib.ListN.{length, getD}
 
 -- the places from a to before z hold x, the others what they held
@@ -17,7 +15,3 @@ pub record Filled (old new : List ℕ) (a z x : ℕ) : Type 0 where
 pub record Holds (g : ℕ → ℕ) (n : ℕ) (l : List ℕ) : Type 0 where
   pub room : n ≤ length l
   pub at : (v : ℕ) → v < n → getD l v 0 ≡ g v
-
--- A count as a table of 32-bit numbers holds it: 0 where it is too large.
-unfoldable pub shown : ℕ → ℕ
-shown p = cond (ltb 4294967295 p) 0 p

@@ -1,6 +1,6 @@
 // Edges, loops and counts: rules 6 to 10.
 ghost use mathlib.Core.Path.{_≡_};
-ghost use Prim.Native.Nat.{_≤_, _<_, _*_};
+ghost use Prim.Native.Nat.{_≤_, _<_};
 ghost use lib.Dec.{eqb};
 ghost use lib.ListN.{length, getD};
 ghost use Rattle.paper.specs.Lists.{least};
@@ -9,7 +9,8 @@ ghost use Rattle.paper.specs.Files.{loopAt, caseOf};
 ghost use Rattle.paper.specs.Verdicts as Verdicts;
 ghost use Rattle.layout.specs.Laid.{Laid};
 ghost use Rattle.layout.specs.Counted.{Counted};
-ghost use Rattle.graph.specs.Filled.{Filled, Holds, shown};
+ghost use Rattle.loops.specs.Counts.{shown};
+ghost use Rattle.graph.specs.Filled.{Filled, Holds};
 ghost use Rattle.graph.specs.Greatest as Greatest;
 ghost use Rattle.graph.specs.Looped.{Edged, Looped};
 ghost use Rattle.graph.specs.After as After;
@@ -214,15 +215,7 @@ fn rule_9(file: &[u8], t: Trailer, table: &mut [u32]) -> u16
     first_return(file, t, table)
 }
 
-// The product as a table holds it: 0 where it is too large, and from then on.
-fn times(a: u32, b: u32) -> u32
-    ensures { λ r. ⌜ r ≡ shown (a * b) ⌝ }
-{
-    let p = (a as u64) * (b as u64);
-    if 4294967295 < p { 0 } else { p as u32 }
-}
-
-// Each node's count: the loops before have the same part in the counts of all of a loop's nodes.
+// Each node's count: over the loops up to one, all of its nodes have its header's count.
 fn counted(file: &[u8], t: Trailer, table: &mut [u32])
     requires { ⌜ Laid (now file) t ⌝ }
     requires { ⌜ Looped (caseOf (now file) t) ⌝ }
@@ -230,10 +223,11 @@ fn counted(file: &[u8], t: Trailer, table: &mut [u32])
     ensures { λ r. ⌜ Holds (λ v. shown (Graphs.count (caseOf (now (file .entry)) t) v)) (t .nodes) (now (table .exit)) ⌝ }
 {
     fill(table, 0, t.nodes as usize, 1);
+    let loops = loops::loops_of(file, t);
     let mut j: u16 = 0;
     while j < t.loops {
-        let l = layout::loop_at(file, t, j);
-        let p = times(table[l.first as usize], l.bound);
+        let l = loops[j as usize];
+        let p = loops::header_count(loops, j);
         fill(table, l.first as usize, l.last as usize + 1, p);
         j += 1;
     }

@@ -87,6 +87,38 @@ module _ (e : Case) where
   unfolding badCount
   count-says v = says-lt _ _
 
+-- What rule 7 gives: headers rise, loops are nested or apart, and end at nodes.
+module _ (e : Case) (kept : None (badLoop e) (e .loops)) where
+  loop-kept : (j : ℕ) → j < e .loops → ¬ BadLoop e j
+  loop-kept j h = says-false (loop-says e j) .0 (kept j h)
+
+  next-rises : (j : ℕ) → suc j < e .loops → e .loop j .first < e .loop (suc j) .first
+  next-rises j h =
+      let z : suc j - 1 ≡ j = omega arith in
+      let n : ¬ (e .loop (suc j) .first ≤ e .loop j .first) = λ le. loop-kept (suc j) h (inr (inr (inr (inr (inl (omega arith, rw z le)))))) in
+      omega arith
+
+  pub rises : (i j : ℕ) → i < j → j < e .loops → e .loop i .first < e .loop j .first
+  rises i zero l h = absurd (omega arith)
+  rises i (suc j) l h =
+      elim (ℕ-discrete i j) [
+        | yes p ↦ rw p (next-rises j h)
+        | no n ↦ omega (arith, rises i j (omega arith) (omega arith), next-rises j h)
+      ]
+
+  pub nested : (i j : ℕ) → i < j → j < e .loops → e .loop j .first ≤ e .loop i .last → e .loop j .last ≤ e .loop i .last
+  nested i j l h p = over (λ q. loop-kept j h (inr (inr (inr (inr (inr (i, l, (p, q))))))))
+    where
+      over : ¬ (e .loop i .last < e .loop j .last) → e .loop j .last ≤ e .loop i .last
+      over n = omega arith
+
+  pub fits : (j : ℕ) → j < e .loops → (e .loop j .first ≤ e .loop j .last) × (e .loop j .last < e .nodes) × (1 ≤ e .loop j .bound)
+  fits j h = let n = loop-kept j h in all (λ p. n (inl p)) (λ p. n (inr (inl p))) (λ p. n (inr (inr (inl p))))
+    where
+      all : ¬ (e .loop j .last < e .loop j .first) → ¬ (e .nodes ≤ e .loop j .last) → ¬ (e .loop j .bound < 1) →
+          (e .loop j .first ≤ e .loop j .last) × (e .loop j .last < e .nodes) × (1 ≤ e .loop j .bound)
+      all a b c = (omega arith, omega arith, omega arith)
+
 -- No edge, loop or node breaks one of the rules 6 to 10.
 pub record KeptGraph (e : Case) : Type 0 where
   pub edges : None (badEdge e) (e .edges)
@@ -96,36 +128,6 @@ pub record KeptGraph (e : Case) : Type 0 where
   pub counts : None (badCount e) (e .nodes)
 
 module _ (e : Case) (kept : KeptGraph e) where
-  loop-kept : (j : ℕ) → j < e .loops → ¬ BadLoop e j
-  loop-kept j h = says-false (loop-says e j) .0 (kept .loops j h)
-
-  next-rises : (j : ℕ) → suc j < e .loops → e .loop j .first < e .loop (suc j) .first
-  next-rises j h =
-      let z : suc j - 1 ≡ j = omega arith in
-      let n : ¬ (e .loop (suc j) .first ≤ e .loop j .first) = λ le. loop-kept (suc j) h (inr (inr (inr (inr (inl (omega arith, rw z le)))))) in
-      omega arith
-
-  rises : (i j : ℕ) → i < j → j < e .loops → e .loop i .first < e .loop j .first
-  rises i zero l h = absurd (omega arith)
-  rises i (suc j) l h =
-      elim (ℕ-discrete i j) [
-        | yes p ↦ rw p (next-rises j h)
-        | no n ↦ omega (arith, rises i j (omega arith) (omega arith), next-rises j h)
-      ]
-
-  nested : (i j : ℕ) → i < j → j < e .loops → e .loop j .first ≤ e .loop i .last → e .loop j .last ≤ e .loop i .last
-  nested i j l h p = over (λ q. loop-kept j h (inr (inr (inr (inr (inr (i, l, (p, q))))))))
-    where
-      over : ¬ (e .loop i .last < e .loop j .last) → e .loop j .last ≤ e .loop i .last
-      over n = omega arith
-
-  fits : (j : ℕ) → j < e .loops → (e .loop j .first ≤ e .loop j .last) × (e .loop j .last < e .nodes) × (1 ≤ e .loop j .bound)
-  fits j h = let n = loop-kept j h in all (λ p. n (inl p)) (λ p. n (inr (inl p))) (λ p. n (inr (inr (inl p))))
-    where
-      all : ¬ (e .loop j .last < e .loop j .first) → ¬ (e .nodes ≤ e .loop j .last) → ¬ (e .loop j .bound < 1) →
-          (e .loop j .first ≤ e .loop j .last) × (e .loop j .last < e .nodes) × (1 ≤ e .loop j .bound)
-      all a b c = (omega arith, omega arith, omega arith)
-
   -- edge i, which goes from u to v
   module _ (u v i : ℕ) (h : i < e .edges) (from : e .from i ≡ u) (to : e .to i ≡ v) where
     ends-at : (u < e .nodes) × (v < e .nodes)
@@ -150,9 +152,9 @@ module _ (e : Case) (kept : KeptGraph e) where
   graph-sound =
       record {
         ends = λ u v x. ends-at u v (x .0) (x .1) (x .2) (x .3);
-        fits = fits;
-        rises = rises;
-        nested = nested;
+        fits = fits e (kept .loops);
+        rises = rises e (kept .loops);
+        nested = nested e (kept .loops);
         forward = λ u v x. forward-at u v (x .0) (x .1) (x .2) (x .3);
         back = λ u v x. back-at u v (x .0) (x .1) (x .2) (x .3);
         counts = λ v h. low v (says-false (count-says e v) .0 (kept .counts v h));

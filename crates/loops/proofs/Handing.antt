@@ -1,0 +1,57 @@
+-- The laws of the loop that reads the file's loops into records, and of counts over these. Assumes nothing.
+use Prim.Native.Nat.{ℕ, suc, _+_, _≤_, _<_}
+use native.Mathlib.Omega.{arith}
+use native.Mathlib.Decide.{ℕ-discrete}
+use mathlib.Core.Path.{_≡_, _∙_}
+use mathlib.Core.List.{List}
+use lib.ListN.{length, getD, set, length-set}
+use lib.Seq.{getD-set-same, getD-set-other}
+use Rattle.paper.specs.declared.Loop.{Loop}
+use Rattle.paper.specs.declared.Trailer.{Trailer}
+use Rattle.paper.specs.Graphs.{count}
+use Rattle.paper.specs.Files.{loopAt, caseOf}
+use Rattle.loops.specs.Counts.{noLoop, countTo, countIn}
+use Rattle.loops.specs.Handed.{Handed}
+use Rattle.loops.proofs.Shown.{counts-agree}
+
+-- the first k of the file's loops are read
+pub record Read (f : List ℕ) (t : Trailer) (k : ℕ) (loops : List Loop) : Type 0 where
+  pub within : k ≤ t .loops
+  pub room : length loops ≡ 64
+  pub at : (j : ℕ) → j < k → getD loops j noLoop ≡ loopAt f t j
+
+module _ (f : List ℕ) (t : Trailer) where
+  pub read-start : (loops : List Loop) → length loops ≡ 64 → Read f t 0 loops
+  read-start loops h = record { within = omega arith; room = h; at = λ j q. absurd (omega arith) }
+
+  pub read-more : (k : ℕ) (loops : List Loop) (l : Loop) → Read f t k loops → k < t .loops → t .loops ≤ 64 → l ≡ loopAt f t k
+      → Read f t (k + 1) (set loops k l)
+  read-more k loops l w q m e =
+      record {
+        within = omega arith;
+        room = length-set loops k l ∙ w .room;
+        at = λ j r.
+            elim (ℕ-discrete j k) [
+              | yes p ↦ rw p (getD-set-same loops k l noLoop (omega (arith, w .room)) ∙ e)
+              | no n ↦ getD-set-other loops k j l noLoop n ∙ w .at j (omega arith)
+            ];
+      }
+
+  pub read-end : (k : ℕ) (loops : List Loop) → Read f t k loops → t .loops ≤ k → Handed f t loops
+  read-end k loops w h = record { room = w .room; at = λ j q. w .at j (omega arith) }
+
+  module _ (loops : List Loop) (w : Handed f t loops) where
+    -- a count over the records is one over the case's loops
+    pub handed-count : (v n : ℕ) → n ≤ t .loops → countIn loops n v ≡ countTo (caseOf f t) v n
+    unfolding countTo caseOf
+    handed-count v n h = counts-agree loops (loopAt f t) n v (λ j q. w .at j (omega arith))
+
+    -- and so is that of loop j's header
+    pub handed-header : (j : ℕ) → j < t .loops
+        → countIn loops (suc j) (getD loops j noLoop .first) ≡ countTo (caseOf f t) (caseOf f t .loop j .first) (suc j)
+    unfolding caseOf
+    handed-header j q = rw (w .at j q) (handed-count (loopAt f t j .first) (suc j) q)
+
+    pub handed-all : (v : ℕ) → countIn loops (t .loops) v ≡ count (caseOf f t) v
+    unfolding countTo count caseOf
+    handed-all v = handed-count v (t .loops) (omega arith)
