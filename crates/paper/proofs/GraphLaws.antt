@@ -1,17 +1,14 @@
 -- What the tests of the rules 6 to 10 say, and that a graph that passes them is sound. Assumes nothing.
-use Prim.Native.Nat.{ℕ, zero, suc, _+_, _-_, _≤_, _<_}
+use Prim.Native.Nat.{ℕ, zero, suc, _-_, _≤_, _<_}
 use native.Mathlib.Omega.{arith}
 use native.Mathlib.Decide.{ℕ-discrete}
-use mathlib.Core.Path.{_≡_, refl, sym, _∙_, ap, subst}
-use mathlib.Core.Logic.{_⊎_, inl, inr, ⊎-elim}
-use mathlib.Core.Bool.{Bool, true, false}
-use lib.Dec.{ltb, leb, eqb}
+use mathlib.Core.Path.{_≡_, sym, _∙_}
+use mathlib.Core.Logic.{_⊎_, inl, inr}
 use Rattle.paper.specs.declared.Loop.{Loop}
 use Rattle.paper.specs.Cases.{Case, inside}
 use Rattle.paper.specs.Graphs.{risesFrom, crosses, beside, returns, around, badEdge, badLoop, badEntry, badReturn, count, badCount}
-use Rattle.paper.specs.Walks.{Edge}
 use Rattle.paper.proofs.Least.{None}
-use Rattle.paper.proofs.Says.{Says, says-lt, says-le, says-eq, says-not, says-and, says-or, says-some, says-false, says-true, says-stable}
+use Rattle.paper.proofs.Says.{Says, says-lt, says-le, says-eq, says-not, says-and, says-or, says-some, says-false, says-stable}
 use Rattle.paper.proofs.Meaning.{In, SoundGraph}
 
 pub inside-says : (l : Loop) (v : ℕ) → Says (In l v) (inside l v)
