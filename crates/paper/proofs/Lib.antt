@@ -10,6 +10,7 @@ pub mod GraphLaws
 pub mod RowLaws
 pub mod FactLaws
 pub mod VerdictLaws
+pub mod FileLaws
 pub mod Numbers
 pub mod Lines
 pub mod Masks

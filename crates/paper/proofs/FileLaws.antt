@@ -1,0 +1,57 @@
+-- What the remaining tests say: of a trace's accesses, a line size, the trailer, and the order of facts. Assumes nothing.
+use Prim.Native.Nat.{ℕ, _+_, _≤_, _<_}
+use mathlib.Core.Path.{_≡_, sym}
+use mathlib.Core.Logic.{_⊎_, ⊎-elim}
+use mathlib.Core.List.{List, [], _∷_, List·Memᴰ, List·Memᴰ·head, List·Memᴰ·tail, List·Memᴰ·cases-cons, List·Memᴰ·not-nil}
+use native.Mathlib.Decide.{ℕ-discrete}
+use borrow.Author.Tests.{eq-eqb, ne-eqb}
+use lib.ListN.{getD}
+use Rattle.paper.specs.declared.Trailer.{Trailer}
+use Rattle.paper.specs.Machines.{none, stands}
+use Rattle.paper.specs.Operations.{lineSize}
+use Rattle.paper.specs.Traces.{badAccess}
+use Rattle.paper.specs.Cases.{Fact, Case, scopeOf}
+use Rattle.paper.specs.Facts.{badOrder}
+use Rattle.paper.specs.Files.{u8At, u32At, endAt, letters, badLetter, badLetters, edgesAt, loopsAt, factsAt, badOffsets}
+use Rattle.paper.proofs.Says.{Says, holds, fails, says-lt, says-le, says-eq, says-not, says-and, says-or, says-some, says-as}
+
+pub stands-says : (lines : List ℕ) (b : ℕ) → Says (List·Memᴰ b lines) (stands lines b)
+unfolding stands
+stands-says [] b = fails List·Memᴰ·not-nil
+stands-says (x ∷ lines) b =
+    elim (ℕ-discrete x b) [
+      | yes e ↦ rw (eq-eqb x b e) (holds (List·Memᴰ·head (sym e)))
+      | no n ↦ rw (ne-eqb x b n) (says-as List·Memᴰ·tail (λ m. ⊎-elim (λ e. absurd (n (sym e))) (λ i. i) (List·Memᴰ·cases-cons m)) (stands-says lines b))
+    ]
+
+-- "the line size is 8, 16, 32, 64 or 128"
+pub size-says : (n : ℕ) → Says (List·Memᴰ n (8 ∷ 16 ∷ 32 ∷ 64 ∷ 128 ∷ [])) (lineSize n)
+unfolding lineSize
+size-says n = stands-says (8 ∷ 16 ∷ 32 ∷ 64 ∷ 128 ∷ []) n
+
+pub access-says : (blocks : List ℕ) (i : ℕ) → Says (getD blocks i 0 ≡ none) (badAccess blocks i)
+unfolding badAccess
+access-says blocks i = says-eq _ _
+
+-- 2
+pub letters-says : (f : List ℕ) → Says (((k : ℕ) × (k < 4) × ¬ (u8At f (endAt f + 28 + k) ≡ getD letters k 0)) ⊎ ¬ (u8At f (endAt f + 27) ≡ 1)) (badLetters f)
+unfolding badLetters badLetter
+letters-says f = says-or (says-some (λ k. says-not (says-eq (u8At f (endAt f + 28 + k)) (getD letters k 0))) 4) (says-not (says-eq _ _))
+
+-- 5
+pub offsets-says : (f : List ℕ) (t : Trailer) →
+    Says
+    (¬ (u32At f (endAt f) ≡ 0)
+    ⊎ (¬ (u32At f (endAt f + 4) ≡ edgesAt t)
+    ⊎ (¬ (u32At f (endAt f + 8) ≡ loopsAt t) ⊎ (¬ (u32At f (endAt f + 12) ≡ factsAt t) ⊎ (endAt f < factsAt t)))))
+    (badOffsets f t)
+unfolding badOffsets
+offsets-says f t =
+    says-or (says-not (says-eq _ _))
+    (says-or (says-not (says-eq _ _)) (says-or (says-not (says-eq _ _)) (says-or (says-not (says-eq _ _)) (says-lt _ _))))
+
+-- 13
+pub order-says : (e : Case) (p t : Fact) →
+    Says ((t .block < p .block) ⊎ ((t .block ≡ p .block) × (scopeOf e t .first ≤ scopeOf e p .last))) (badOrder e p t)
+unfolding badOrder
+order-says e p t = says-or (says-lt _ _) (says-and (says-eq _ _) (says-le _ _))
