@@ -11,7 +11,7 @@ use Rattle.paper.specs.Cases.{Row, Fact, Case, inside, size, scopeOf, ro
 use Rattle.paper.specs.Walks.{Edge}
 use Rattle.paper.specs.Facts.{badHead, unfetched, badRow, badRowAt, breaks, badStepAt, badManyAt, evidenceRule}
 use Rattle.paper.proofs.Least.{None, none-some, some-none, is-some}
-use Rattle.paper.proofs.Says.{Says, says-lt, says-le, says-eq, says-not, says-and, says-or, says-false, says-true, says-stable}
+use Rattle.paper.proofs.Says.{Says, says-lt, says-le, says-eq, says-not, says-and, says-or, says-some, says-false, says-true, says-stable}
 use Rattle.paper.proofs.Meaning.{In, SoundRow, EdgeRule, SoundEvidence, SoundHead}
 use Rattle.paper.proofs.GraphLaws.{inside-says}
 use Rattle.paper.proofs.RowLaws.{row-law, edge-law, breaks-says}
@@ -56,6 +56,10 @@ module _ (e : Case) (t : Fact) where
   within j h = (omega arith, omega arith)
 
   -- 14
+  pub unfetched-says : Says (¬ ((j : ℕ) × (j < size (scopeOf e t)) × (e .block (first + j) ≡ t .block))) (unfetched e t)
+  unfolding unfetched
+  unfetched-says = says-not (says-some fetches-says (size (scopeOf e t)))
+
   pub fetched : unfetched e t ≡ false → (v : ℕ) × In (scopeOf e t) v × (e .block v ≡ t .block)
   unfolding unfetched
   fetched h =
@@ -78,7 +82,7 @@ module _ (e : Case) (t : Fact) where
       says-false (says-and (says-and (inside-says _ _) (inside-says _ _)) (breaks-says e t _ _ _)) .1
       (λ x. says-false (breaks-says e t _ _ _) .0 (edge-law e t _ _ _ .1 (c (x .0 .0) (x .0 .1))) (x .1))
 
-  many-says : (j : ℕ) → Says ((e .block (first + j) ≡ t .block) × (t .row j .number ≡ 8)) (badManyAt e t j)
+  pub many-says : (j : ℕ) → Says ((e .block (first + j) ≡ t .block) × (t .row j .number ≡ 8)) (badManyAt e t j)
   unfolding badManyAt
   many-says j = says-and (fetches-says j) (says-eq _ _)
 

@@ -11,6 +11,7 @@ pub mod RowLaws
 pub mod FactLaws
 pub mod VerdictLaws
 pub mod FileLaws
+pub mod TestLaws
 pub mod Numbers
 pub mod Lines
 pub mod Masks

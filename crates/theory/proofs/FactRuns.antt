@@ -24,7 +24,8 @@ use Rattle.theory.proofs.Counting.{stays-le-entries}
 use Rattle.theory.proofs.Costs.{paid}
 use Rattle.theory.proofs.Passing.{passing-le-counts}
 use Rattle.theory.proofs.Law.{Machine, Fair, Law}
-use Rattle.theory.proofs.Moves.{Held, Fine, move, missAt, misses, move-fine, miss-at, covers-says}
+use Rattle.paper.proofs.TestLaws.{covers-says}
+use Rattle.theory.proofs.Moves.{Held, Fine, move, missAt, misses, move-fine, miss-at}
 use Rattle.theory.proofs.Since.{since, Taken, missed, fact-pays}
 
 module _ (e : Case) (M : Machine) (t : Fact) where

@@ -22,7 +22,8 @@ use Rattle.theory.proofs.Law.{Machine}
 use Rattle.theory.proofs.Lru.{LRU, lru-fair, lru-law}
 use Rattle.theory.proofs.Fifo.{FIFO, fifo-fair}
 use Rattle.theory.proofs.Costs.{paid}
-use Rattle.theory.proofs.Moves.{inSet, Held, Fine, moved, move, missAt, misses, move-fine, miss-at, lives-says}
+use Rattle.paper.proofs.TestLaws.{lives-says}
+use Rattle.theory.proofs.Moves.{inSet, Held, Fine, moved, move, missAt, misses, move-fine, miss-at}
 use Rattle.theory.proofs.FactRuns.{law-bound}
 use Rattle.theory.proofs.SetSums.{set-sum}
 

@@ -8,28 +8,18 @@ use mathlib.Core.List.{List, [], _∷_}
 use borrow.Author.Tests.{ne-eqb}
 use lib.Dec.{eqb}
 use Rattle.paper.specs.Machines.{none}
-use Rattle.paper.specs.Cases.{Case, Fact, scopeOf}
-use Rattle.paper.specs.Bounds.{covers, lives}
-use Rattle.paper.proofs.Says.{Says, says-eq, says-not, says-and}
-use Rattle.paper.proofs.GraphLaws.{inside-says}
+use Rattle.paper.specs.Cases.{Case}
+use Rattle.paper.specs.Bounds.{lives}
 use Rattle.paper.proofs.Says.{says-is}
-use Rattle.paper.proofs.Meaning.{In}
 use Rattle.theory.proofs.Law.{Machine, Fair}
+use Rattle.paper.proofs.TestLaws.{lives-says}
 use Rattle.theory.proofs.SumLaws.{cond-le}
 use Rattle.theory.proofs.Costs.{Visit, paid}
 use Rattle.theory.proofs.Passing.{ones}
 
-pub lives-says : (e : Case) (q b : ℕ) → Says ((b ≢ none) × (b % e .sets ≡ q)) (lives e q b)
-unfolding lives
-lives-says e q b = says-and (says-not (says-eq b none)) (says-eq (b % e .sets) q)
-
 -- the node fetches a block of set q
 abbrev pub inSet : Case → ℕ → ℕ → Bool
 inSet e q v = lives e q (e .block v)
-
-pub covers-says : (e : Case) (t : Fact) (v : ℕ) → Says (In (scopeOf e t) v × (e .block v ≡ t .block)) (covers e t v)
-unfolding covers
-covers-says e t v = says-and (inside-says (scopeOf e t) v) (says-eq (e .block v) (t .block))
 
 module _ (e : Case) (M : Machine) where
   -- a state of each set

@@ -19,7 +19,8 @@ use Rattle.paper.proofs.Meaning.{Holds, SoundRow, Carried, EdgeRule}
 use Rattle.theory.proofs.Blocks.{blocks}
 use Rattle.theory.proofs.Count.{cnt, sum, one-yes, one-no}
 use Rattle.theory.proofs.Law.{Machine, Law}
-use Rattle.theory.proofs.Moves.{lives-says, moved}
+use Rattle.paper.proofs.TestLaws.{lives-says}
+use Rattle.theory.proofs.Moves.{moved}
 
 -- its members are the blocks in the slots
 held-cnt : (g : ℕ → ℕ) (n k : ℕ) → k < n → 1 ≤ cnt (g k) (table g n)

@@ -18,7 +18,8 @@ use Rattle.theory.proofs.Ranges.{some-set}
 use Rattle.theory.proofs.SumLaws.{sum-le}
 use Rattle.theory.proofs.Costs.{paid, paid-none, paid-split}
 use Rattle.theory.proofs.Policies.{Policy, Lru, Fifo, Nmru, number, ideal, fewest, fair}
-use Rattle.theory.proofs.Moves.{inSet, Held, Fine, misses, lives-says}
+use Rattle.paper.proofs.TestLaws.{lives-says}
+use Rattle.theory.proofs.Moves.{inSet, Held, Fine, misses}
 use Rattle.theory.proofs.FactBounds.{fact-bounded}
 use Rattle.theory.proofs.SetSums.{set-sum}
 use Rattle.theory.proofs.Floors.{by-floor}

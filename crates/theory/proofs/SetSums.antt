@@ -15,7 +15,8 @@ use Rattle.theory.proofs.SumLaws.{sum-le, cond-le}
 use Rattle.theory.proofs.Costs.{paid, paid-split}
 use Rattle.theory.proofs.Passing.{passing-le-counts}
 use Rattle.theory.proofs.Law.{Machine, Fair}
-use Rattle.theory.proofs.Moves.{inSet, Held, misses, misses-le, covers-says}
+use Rattle.paper.proofs.TestLaws.{covers-says}
+use Rattle.theory.proofs.Moves.{inSet, Held, misses, misses-le}
 
 and-true : (a b : Bool) → (a && b) ≡ true → (a ≡ true) × (b ≡ true)
 and-true true b h = (refl, h)
