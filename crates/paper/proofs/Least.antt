@@ -105,3 +105,32 @@ module _ (p : ℕ → Bool) where
   pub is-some : (n : ℕ) → some p n ≡ true → Found p n
   is-some n e =
       ⊎-elim (λ h. absurd (true≢false (sym e ∙ some-none n h))) (λ w. w) (look n)
+
+-- a loop that asks whether p holds somewhere below n is at i
+module _ (p : ℕ → Bool) (n i : ℕ) (w : Passed p n i) where
+  pub some-found : (b : Bool) → i < n → b ≡ p i → b ≡ true → true ≡ some p n
+  some-found b h e t = sym (some-is p n (record { at = i; below = h; none = w .none; holds = sym e ∙ t }))
+
+  pub some-end : n ≤ i → false ≡ some p n
+  some-end h = sym (some-none p n (λ k q. w .none k (omega (arith, w .within))))
+
+-- tests that agree below n
+module _ (p q : ℕ → Bool) (n : ℕ) (same : (k : ℕ) → k < n → p k ≡ q k) where
+  pub least-same : least p n ≡ least q n
+  least-same =
+      ⊎-elim
+      (λ h. least-none p n h ∙ sym (least-none q n (λ k l. sym (same k l) ∙ h k l)))
+      (λ w. least-is p n w
+      ∙ sym
+      (least-is q n
+      (record {
+        at = w .at;
+        below = w .below;
+        none = λ k l. sym (same k (omega (arith, w .below))) ∙ w .none k l;
+        holds = sym (same (w .at) (w .below)) ∙ w .holds;
+      })))
+      (look p n)
+
+  pub some-same : some p n ≡ some q n
+  unfolding some
+  some-same = rw least-same refl

@@ -68,6 +68,19 @@ pub says-is : {P : Type 0} {s : Bool} → Says P s → P → s ≡ true
 says-is (holds p) q = refl
 says-is (fails n) q = absurd (n q)
 
+-- tests of two statements of which each gives the other
+pub says-same : {P Q : Type 0} {s t : Bool} → (P → Q) → (Q → P) → Says P s → Says Q t → s ≡ t
+says-same f g (holds p) k = sym (says-is k (f p))
+says-same f g (fails n) k = sym (says-false k .1 (λ q. n (g q)))
+
+pub neither : (a b : Bool) → (a || b) ≡ false → (a ≡ false) × (b ≡ false)
+neither true b e = absurd (true≢false e)
+neither false b e = (refl, e)
+
+pub both : (a b : Bool) → (a && b) ≡ true → (a ≡ true) × (b ≡ true)
+both true b e = (refl, e)
+both false b e = absurd (true≢false (sym e))
+
 pub says-some : {p : ℕ → Bool} {P : ℕ → Type 0} → ((k : ℕ) → Says (P k) (p k)) → (n : ℕ) → Says ((k : ℕ) × (k < n) × P k) (some p n)
 says-some {p} {P} h n = go (some p n) refl
   where

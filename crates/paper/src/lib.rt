@@ -1,5 +1,6 @@
 // The types that cross crate borders. What they mean stands in specs/, section by section of the paper.
 ghost use mathlib.Core.Path.{_≡_};
+ghost use Prim.Native.Nat.{_%_, _<_, _≤_};
 ghost use Rattle.paper.specs.Answers as Answers;
 
 mod methods;
@@ -96,4 +97,13 @@ pub fn refuse(number: u8, place: usize) -> Refusal
         number: number,
         place: place,
     }
+}
+
+// "block b lives in set b mod S"
+pub fn home(b: u16, sets: u8) -> u16
+    requires { ⌜ (0 < sets) × (sets ≤ 64) ⌝ }
+    ensures { λ r. ⌜ r ≡ b % sets ⌝ }
+    ensures { λ r. ⌜ r < 64 ⌝ }
+{
+    b % (sets as u16)
 }
