@@ -14,5 +14,6 @@ pub mod FileLaws
 pub mod TestLaws
 pub mod Numbers
 pub mod Lines
+pub mod Carries
 pub mod Masks
 pub mod Moves

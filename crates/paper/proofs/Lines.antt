@@ -1,15 +1,15 @@
 -- Laws of a set's lines: the search for a block, the shift of the lines, and what a shift of all of them is where the lines from k on are empty. Assumes nothing.
 use Prim.Native.Nat.{ℕ, zero, suc, _+_, _-_, _<_, _≤_, min}
 use native.Mathlib.Nat.{not-suc-le-zero, le-of-suc-le-suc}
-use native.Mathlib.Decide.{ℕ-discrete}
+use native.Mathlib.Decide.{ℕ-discrete, decLt}
 use native.Mathlib.Omega.{arith}
 use native.Mathlib.Numerals.{unary-clauses}
-use mathlib.Core.Path.{_≡_, refl, sym, ap}
+use mathlib.Core.Path.{_≡_, refl, sym, ap, _∙_}
 use mathlib.Core.Bool.{Bool, true, false, cond, true≢false}
 use mathlib.Core.List.{List, [], _∷_, _++_}
 use lib.Dec.{eqb}
-use lib.ListN.{length, getD, take, drop, set, drop-of-length-le}
-use lib.Seq.{drop-cons}
+use lib.ListN.{length, getD, take, drop, set, drop-of-length-le, length-append, length-take, length-drop}
+use lib.Seq.{drop-cons, set-out}
 use borrow.Author.Tests.{eq-eqb, ne-eqb, lt-ltb, le-ltb, eqb-true}
 use Rattle.paper.specs.Machines.{none, lineOf, hits, pushed, oneDown, empty}
 
@@ -78,26 +78,41 @@ empty-parts x l h = go (eqb x none) refl h
     go true e h = (eqb-true x none e, h)
     go false e h = absurd (true≢false (sym h))
 
-all-empty : (n : ℕ) (l : List ℕ) → length l ≡ suc n → empty l ≡ true → none ∷ without n l ≡ l
+all-empty : (n : ℕ) (l : List ℕ) → n < length l → empty l ≡ true → none ∷ without n l ≡ l
 unfolding without
-all-empty n [] e h = absurd (omega arith)
-all-empty zero (x ∷ []) e h = ap {B = List ℕ} (λ y. y ∷ []) (sym (empty-parts x [] h .0))
-all-empty zero (x ∷ y ∷ l) e h = absurd (omega arith)
+all-empty n [] e h = absurd (not-suc-le-zero e)
+all-empty zero (x ∷ l) e h = ap {B = List ℕ} (λ y. y ∷ l) (sym (empty-parts x l h .0))
 all-empty (suc n) (x ∷ l) e h =
     let p = empty-parts x l h in
-    let q : length l ≡ suc n = omega arith in
-    rw (p .0) (ap {B = List ℕ} (λ m. none ∷ m) (all-empty n l q (p .1)))
+    rw (p .0) (ap {B = List ℕ} (λ m. none ∷ m) (all-empty n l (le-of-suc-le-suc e) (p .1)))
 
-emptied : (n k : ℕ) (l : List ℕ) → length l ≡ suc n → k < n → empty (drop (suc k) l) ≡ true → set (without n l) k none ≡ without k l
+emptied : (n k : ℕ) (l : List ℕ) → n < length l → k < n → empty (drop (suc k) l) ≡ true → set (without n l) k none ≡ without k l
 unfolding without
-emptied n k [] e h m = absurd (omega arith)
-emptied zero k (x ∷ l) e h m = absurd (omega arith)
-emptied (suc n) zero (x ∷ l) e h m = all-empty n l (omega arith) m
+emptied n k [] e h m = absurd (not-suc-le-zero e)
+emptied zero k (x ∷ l) e h m = absurd (not-suc-le-zero h)
+emptied (suc n) zero (x ∷ l) e h m = all-empty n l (le-of-suc-le-suc e) m
 emptied (suc n) (suc k) (x ∷ l) e h m =
-    ap {B = List ℕ} (λ r. x ∷ r) (emptied n k l (omega arith) (omega arith) m)
+    ap {B = List ℕ} (λ r. x ∷ r) (emptied n k l (le-of-suc-le-suc e) (le-of-suc-le-suc h) m)
 
--- "A miss moves all one down": all lines are shifted, and line k emptied again
-pub one-down-all : (n k : ℕ) (l : List ℕ) (b : ℕ) → length l ≡ suc n → 0 < k → k ≤ n → empty (drop k l) ≡ true → set (pushed n l b) k none ≡ oneDown k l b
-unfolding pushed without
-one-down-all n zero l b e p h m = absurd (omega arith)
-one-down-all n (suc k) l b e p h m = simp unary-clauses (ap {B = List ℕ} (λ r. b ∷ r) (emptied n k l e h m))
+pub length-pushed : (n : ℕ) (l : List ℕ) (b : ℕ) → n < length l → length (pushed n l b) ≡ length l
+unfolding pushed
+length-pushed n l b h = rw (length-append, length-take, length-drop) (omega arith)
+
+-- "A miss moves all one down; the last is lost": where lines moved up to line n, and that is line k or a later one or the last of all, line k is emptied again
+module _ (n k : ℕ) (l : List ℕ) (b : ℕ) (low : n < length l) (some : 0 < k) (m : empty (drop k l) ≡ true) where
+  down-short : k ≤ n → set (pushed n l b) k none ≡ oneDown k l b
+  unfolding pushed without
+  down-short h = go k some m h
+    where
+      go : (k : ℕ) → 0 < k → empty (drop k l) ≡ true → k ≤ n → set (pushed n l b) k none ≡ oneDown k l b
+      go zero p m h = absurd (not-suc-le-zero p)
+      go (suc k) p m h = simp unary-clauses (ap {B = List ℕ} (λ r. b ∷ r) (emptied n k l low h m))
+
+  pub one-down : k ≤ length l → min k (length l - 1) ≤ n → set (pushed n l b) k none ≡ oneDown k l b
+  one-down q h =
+      elim (decLt k (length l)) [
+        | yes y ↦ down-short (omega arith)
+        | no y ↦
+            let z : n ≡ k - 1 = omega arith in
+            set-out (pushed n l b) k none (omega (arith, length-pushed n l b low)) ∙ ap (λ (i : ℕ). pushed i l b) z
+      ]

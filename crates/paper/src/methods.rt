@@ -1,8 +1,8 @@
 // One step of each machine: on a set's eight lines where they lie, and by value on the set state.
 ghost use mathlib.Core.Path.{_≡_};
-ghost use Prim.Native.Nat.{ℕ, _+_, _-_, _^_, _<_, _≤_};
-ghost use lib.ListN.{length};
-ghost use Rattle.paper.specs.Machines.{lineOf, pushed, oneDown, victim, marked, lruStep, fifoStep, nmruStep};
+ghost use Prim.Native.Nat.{ℕ, _+_, _-_, _^_, _<_, _≤_, min};
+ghost use lib.ListN.{length, set};
+ghost use Rattle.paper.specs.Machines.{none, lineOf, pushed, victim, marked, lruStep, fifoStep, nmruStep};
 ghost use Rattle.paper.specs.NextBits.{nextBits};
 ghost use Rattle.paper.specs.Ready.{Ready, stateOf, steppedOf};
 use crate::Block;
@@ -25,12 +25,12 @@ fn line_of(lines: &[u16; 8], b: u16) -> usize
     i
 }
 
-// b comes to line 0 and lines 0 to j-1 one down, the last of them first.
-fn push(lines: &mut [u16; 8], j: usize, b: u16)
-    requires { ⌜ (j < 8) × (length (now lines) ≡ 8) ⌝ }
-    ensures { λ r. ⌜ now (lines .exit) ≡ pushed j (now (lines .entry)) b ⌝ }
+// All lines one down, the last of them first, and b in line 0.
+fn push(lines: &mut [u16; 8], b: u16)
+    requires { ⌜ length (now lines) ≡ 8 ⌝ }
+    ensures { λ r. ⌜ now (lines .exit) ≡ pushed 7 (now (lines .entry)) b ⌝ }
 {
-    let mut i = j;
+    let mut i: usize = 7;
     while i > 0 {
         lines[i] = lines[i - 1];
         i -= 1;
@@ -38,13 +38,31 @@ fn push(lines: &mut [u16; 8], j: usize, b: u16)
     lines[0] = b;
 }
 
-// "A miss moves all one down; the last is lost." The lines from k on are empty, so all eight are moved, and line k is emptied again.
-fn one_down(lines: &mut [u16; 8], k: usize, b: u16)
-    requires { ⌜ Ready k (now lines) ⌝ }
+// b comes to line 0 and each line one down, up to the one that b stood in: the search and the shift in one go.
+fn carry(lines: &mut [u16; 8], b: u16) -> usize
     requires { ⌜ length (now lines) ≡ 8 ⌝ }
-    ensures { λ r. ⌜ now (lines .exit) ≡ oneDown k (now (lines .entry)) b ⌝ }
+    ensures { λ r. ⌜ r ≡ lineOf (now (lines .entry)) b ⌝ }
+    ensures { λ r. ⌜ now (lines .exit) ≡ pushed (min r 7) (now (lines .entry)) b ⌝ }
 {
-    push(lines, 7, b);
+    let mut carried = b;
+    let mut i: usize = 0;
+    while i < 8 {
+        let here = lines[i];
+        lines[i] = carried;
+        if here == b {
+            return i;
+        }
+        carried = here;
+        i += 1;
+    }
+    i
+}
+
+// The lines from k on are empty. Where more than k lines were moved, line k is emptied again: "the last is lost."
+fn empty_line(lines: &mut [u16; 8], k: usize)
+    requires { ⌜ length (now lines) ≡ 8 ⌝ }
+    ensures { λ r. ⌜ now (lines .exit) ≡ set (now (lines .entry)) k none ⌝ }
+{
     if k < 8 {
         lines[k] = 65535;
     }
@@ -56,12 +74,11 @@ pub fn lru_lines(lines: &mut [u16; 8], k: usize, b: u16) -> bool
     requires { ⌜ length (now lines) ≡ 8 ⌝ }
     ensures { λ r. ⌜ ((n : ℕ) → steppedOf (now (lines .exit)) n r ≡ lruStep k (stateOf (now (lines .entry)) n) b) ⌝ }
 {
-    let j = line_of(lines, b);
+    let j = carry(lines, b);
     if j < k {
-        push(lines, j, b);
         return true;
     }
-    one_down(lines, k, b);
+    empty_line(lines, k);
     false
 }
 
@@ -75,7 +92,8 @@ pub fn fifo_lines(lines: &mut [u16; 8], k: usize, b: u16) -> bool
     if at < k {
         return true;
     }
-    one_down(lines, k, b);
+    push(lines, b);
+    empty_line(lines, k);
     false
 }
 

@@ -1,4 +1,10 @@
 -- `paper::methods::lru_lines` meets its contract. Assumes nothing.
+use Prim.Native.Nat.{ℕ}
+use native.Mathlib.Omega.{arith}
+use mathlib.Core.Path.{ap, _∙_}
+use mathlib.Core.List.{List}
+use lib.ListN.{length}
+use Rattle.paper.proofs.Lines.{length-pushed}
 use Rattle.paper.proofs.Moves.{lru-hit, lru-miss}
 use borrow.Author.Needs.{needs}
 use Rattle.paper.proofs.methods.lru_lines.Statement.{statement}
@@ -6,14 +12,18 @@ use Rattle.paper.proofs.methods.lru_lines.Tie as tie
 
 returns : tie.Need-returns
 returns c =
-    let s = c .before .before .before .before .before in
-    λ n. lru-hit (s .args .k) (s .args .lines .now) n (s .args .b) _ (s .pre .0) (s .pre .1) (c .before .before .before .line-of .ensures) _ (c .before .before .if1 .taken) (c .push .ensures)
+    let s = c .before .before .before in
+    let m = c .before .carry .ensures in
+    λ n. lru-hit (s .args .k) (s .args .lines .now) n (s .args .b) _ (s .pre .0) (s .pre .1) (m .0) _ (c .if1 .taken) (m .1)
+
+empty-line-requires : tie.Need-empty-line-requires
+empty-line-requires c κs = ap (λ (m : List ℕ). length m) (c .before .before .carry .ensures .1) ∙ length-pushed _ _ _ (omega arith) ∙ c .before .before .before .before .pre .1
 
 returns-2 : tie.Need-returns-2
 returns-2 c =
     let s = c .before .before .before .before .before in
-    λ n. lru-miss (s .args .k) (s .args .lines .now) n (s .args .b) _ (s .pre .0) (s .pre .1) (c .before .before .before .line-of .ensures) _ (c .before .before .if1 .left) (c .one-down .ensures)
+    let m = c .before .before .before .carry .ensures in
+    λ n. lru-miss (s .args .k) (s .args .lines .now) n (s .args .b) _ (s .pre .0) (s .pre .1) (m .0) _ _ (c .before .before .if1 .left) (m .1) (c .empty-line .ensures)
 
 pub lru-lines-spec : {M : Type 1} → statement M
-lru-lines-spec =
-    tie.close (tie.spec (λ c κs. search needs) (λ c κs. search needs) returns (λ c κs. search needs) returns-2)
+lru-lines-spec = tie.close (tie.spec (λ c κs. search needs) returns empty-line-requires returns-2)

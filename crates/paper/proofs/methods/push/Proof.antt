@@ -1,4 +1,4 @@
--- `paper::methods::push` meets its contract: what is left to be shifted from line i on is what was to be shifted from line j on. Assumes nothing.
+-- `paper::methods::push` meets its contract: what is left to be shifted up to line i is what was to be shifted up to the last. Assumes nothing.
 use Prim.Native.Nat.{_≤_}
 use native.Mathlib.Omega.{arith}
 use mathlib.Core.Path.{_≡_, refl, _∙_}
@@ -10,10 +10,10 @@ use Rattle.paper.proofs.methods.push.Statement.{statement}
 use Rattle.paper.proofs.methods.push.Tie as tie
 
 abbrev Inv-loop : tie.InvT-loop
-Inv-loop lines₀ j b i₀ lines i = (i ≤ j) × (length lines ≡ 8) × (pushed i lines b ≡ pushed j lines₀ b)
+Inv-loop lines₀ b i₀ lines i = (i ≤ 7) × (length lines ≡ 8) × (pushed i lines b ≡ pushed 7 lines₀ b)
 
 abbrev μ-loop : tie.MeasureT-loop
-μ-loop lines₀ j b i₀ lines i = i
+μ-loop lines₀ b i₀ lines i = i
 
 loop-again : tie.Need-loop-again Inv-loop μ-loop
 loop-again c =
@@ -31,7 +31,7 @@ push-spec =
     (tie.spec
     Inv-loop
     μ-loop
-    (λ c. (omega arith, c .pre .1, refl))
+    (λ c. (omega arith, c .pre, refl))
     (λ c. search needs)
     (λ c. search needs)
     (λ c. search needs)
