@@ -15,7 +15,7 @@ use borrow.Author.Tests.{eq-eqb, ne-eqb, eqb-true, ltb-true, ltb-false, lt-ltb}
 use Rattle.paper.specs.declared.SetState.{SetState}
 use Rattle.paper.specs.Machines.{none, emptySet, lineOf, hits, pushed, oneDown, victim, marked, nmruLine, lruStep, fifoStep, nmruStep, step, offered, stands, distinct, empty, legalBits, legal}
 use Rattle.paper.specs.Ready.{stateOf}
-use Rattle.paper.proofs.Masks.{victim-low}
+use Rattle.paper.proofs.Bits.{victim-low}
 use Rattle.paper.proofs.Moves.{line-at}
 use Rattle.machine.proofs.Offered.{policy-low, at-least, at-most, two-ways, legal-apart, legal-beyond, legal-bits}
 

@@ -3,22 +3,19 @@ use Prim.Native.Nat.{ℕ, zero, suc, _+_, _-_, _/_, _%_, _^_, _<_, _≤_}
 use mathlib.Core.Path.{_≡_, refl, ap, sym, _∙_}
 use mathlib.Core.Logic.{_≢_}
 use native.Mathlib.Nat.{div-one, div-self, div-eq-of-lt, pow-suc, mod-eq-of-lt}
-use native.Mathlib.Decide.{ℕ-discrete}
+use native.Mathlib.Decide.{ℕ-discrete, decLt}
 use native.Mathlib.Omega.{arith}
-use borrow.Author.Tests.{eq-eqb, ne-eqb}
+use borrow.Author.Tests.{eq-eqb, ne-eqb, eqb-true, eqb-false}
 use lib.Bits.{bitOr, or-zero-r, or-shr, or-mod, or-lt}
 use lib.Pow.{shr-shr, pow-pos, pow-lt, pow-mono}
-use Rattle.paper.specs.Machines.{lowestClear, victim, marked}
+use Rattle.paper.specs.Machines.{bitAt, victim, marked}
+use Rattle.paper.proofs.Least.{least-before, least-at}
 
--- "Bit i, of value 2^i, is line i's."
-unfoldable pub bitAt : ℕ → ℕ → ℕ
-bitAt bits i = bits / 2 ^ i % 2
-
-bit-zero : (m : ℕ) → bitAt m 0 ≡ m % 2
+pub bit-zero : (m : ℕ) → bitAt m 0 ≡ m % 2
 unfolding bitAt
 bit-zero m = ap (λ (n : ℕ). n % 2) (div-one m)
 
-bit-suc : (m i : ℕ) → bitAt m (suc i) ≡ bitAt (m / 2) i
+pub bit-suc : (m i : ℕ) → bitAt m (suc i) ≡ bitAt (m / 2) i
 unfolding bitAt
 bit-suc m i =
     let e : suc i ≡ 1 + i = omega arith in
@@ -56,55 +53,30 @@ or-own m j = bit-or m (2 ^ j) j ∙ rw (bit-own j) (or-one (bitAt m j) (bit-le m
 or-rest : (m i j : ℕ) → i ≢ j → bitAt (bitOr m (2 ^ j)) i ≡ bitAt m i
 or-rest m i j n = bit-or m (2 ^ j) i ∙ rw (bit-alone i j n) (or-zero-r (bitAt m i))
 
--- "the lowest line whose bit is 0": all lines before it have the bit 1
-clear-le : (n m : ℕ) → lowestClear n m ≤ n
-unfolding lowestClear
-clear-le zero m = omega arith
-clear-le (suc n) m = elim (ℕ-discrete (m % 2) 0) [ yes e ↦ rw eq-eqb (omega arith) | no f ↦ rw ne-eqb (omega (arith, clear-le n (m / 2))) ]
+-- the low k bits are 1 exactly where the number is at least that of k bits
+pub all-ones : (k m : ℕ) → ((i : ℕ) → i < k → bitAt m i ≡ 1) → 2 ^ k ≤ suc m
+all-ones zero m h = omega arith
+all-ones (suc k) m h =
+    omega (arith, pow-suc 2 k, sym (bit-zero m) ∙ h 0 (omega arith), all-ones k (m / 2) (λ i l. sym (bit-suc m i) ∙ h (suc i) (omega arith)))
 
-clear-ones : (n m i : ℕ) → i < lowestClear n m → bitAt m i ≡ 1
-unfolding lowestClear
-clear-ones zero m i h = absurd (omega arith)
-clear-ones (suc n) m zero h =
-    elim (ℕ-discrete (m % 2) 0) [ yes e ↦ absurd (omega (arith, rw (eq-eqb (m % 2) 0 e) at h)) | no f ↦ bit-zero m ∙ omega arith ]
-clear-ones (suc n) m (suc i) h =
-    elim (ℕ-discrete (m % 2) 0) [
-      | yes e ↦ absurd (omega (arith, rw (eq-eqb (m % 2) 0 e) at h))
-      | no f ↦ bit-suc m i ∙ clear-ones n (m / 2) i (omega (arith, rw (ne-eqb (m % 2) 0 f) at h))
-    ]
-
-clear-zero : (n m : ℕ) → suc m < 2 ^ suc n → bitAt m (lowestClear n m) ≡ 0
-unfolding lowestClear
-clear-zero zero m h = bit-zero m ∙ omega arith
-clear-zero (suc n) m h =
-    elim (ℕ-discrete (m % 2) 0) [
-      | yes e ↦ rw eq-eqb (bit-zero m ∙ e)
-      | no f ↦ rw ne-eqb (bit-suc m (lowestClear n (m / 2)) ∙ clear-zero n (m / 2) (omega (arith, pow-suc 2 (suc n))))
-    ]
-
-pub some-way : (k m : ℕ) → m < 2 ^ k - 1 → 0 < k
-some-way zero m h = absurd (omega arith)
-some-way (suc k) m h = omega arith
-
-module _ (k m : ℕ) where
-  pub victim-ones : (i : ℕ) → i < victim k m → bitAt m i ≡ 1
-  unfolding victim
-  victim-ones i h = clear-ones (k - 1) m i h
-
-  pub victim-low : 0 < k → victim k m < k
-  unfolding victim
-  victim-low h = omega (arith, clear-le (k - 1) m)
-
-  -- "at least one of the low k is 0"
-  pub victim-zero : m < 2 ^ k - 1 → bitAt m (victim k m) ≡ 0
-  unfolding victim
-  victim-zero h = let e : suc (k - 1) ≡ k = omega (arith, some-way k m h) in clear-zero (k - 1) m (rw e (omega arith))
-
--- all k bits are 1
 full-ones : (k m i : ℕ) → suc m ≡ 2 ^ k → i < k → bitAt m i ≡ 1
 full-ones zero m i h l = absurd (omega arith)
 full-ones (suc k) m zero h l = bit-zero m ∙ omega (arith, pow-suc 2 k)
 full-ones (suc k) m (suc i) h l = bit-suc m i ∙ full-ones k (m / 2) i (omega (arith, pow-suc 2 k)) (omega arith)
+
+-- "the lowest line whose bit is 0": all lines before it have the bit 1, and where not all bits are 1 it is a line and has the bit 0
+module _ (k m : ℕ) where
+  pub victim-ones : (i : ℕ) → i < victim k m → bitAt m i ≡ 1
+  unfolding victim
+  victim-ones i h = omega (arith, bit-le m i, eqb-false (bitAt m i) 0 (least-before _ k i h))
+
+  module _ (few : m < 2 ^ k - 1) where
+    pub victim-low : victim k m < k
+    victim-low =
+        elim (decLt (victim k m) k) [ yes l ↦ l | no l ↦ absurd (omega (arith, all-ones k m (λ i h. victim-ones i (omega arith)))) ]
+
+    pub victim-zero : bitAt m (victim k m) ≡ 0
+    victim-zero = eqb-true (bitAt m (victim k m)) 0 (unfold victim in least-at _ k victim-low)
 
 -- The bits n after an access of line j, where they were m before. "if then all k bits are 1, all the others become 0"
 pub data Rest (k m j n : ℕ) : Type 0 where
@@ -137,7 +109,7 @@ module _ (k m j : ℕ) (low : j < k) (few : m < 2 ^ k) where
             let free = victim-zero k w (omega (arith, or-few)) in
             let other : victim k w ≢ j = λ p. omega (arith, or-own m j, ap (bitAt w) p) in
             rw (ne-eqb (w % 2 ^ k))
-            (same (victim k w) (victim-low k w (omega arith)) other (sym (or-rest m (victim k w) j other) ∙ free) (λ i n. or-rest m i j n))
+            (same (victim k w) (victim-low k w (omega (arith, or-few))) other (sym (or-rest m (victim k w) j other) ∙ free) (λ i n. or-rest m i j n))
       ]
 
   pub marked-few : 2 ≤ k → marked k m j < 2 ^ k - 1

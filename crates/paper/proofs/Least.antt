@@ -90,6 +90,17 @@ module _ (p : ℕ → Bool) where
   least-is n w =
       sym (least-found p n (w .at) true (record { within = omega (arith, w .below); none = w .none }) (w .below) (sym (w .holds)) refl)
 
+  pub least-le : (n : ℕ) → least p n ≤ n
+  least-le n = ⊎-elim (λ h. omega (arith, least-none n h)) (λ w. omega (arith, least-is n w, w .below)) (look n)
+
+  pub least-before : (n i : ℕ) → i < least p n → p i ≡ false
+  least-before n i l =
+      ⊎-elim (λ h. h i (omega (arith, least-none n h))) (λ w. w .none i (omega (arith, least-is n w))) (look n)
+
+  pub least-at : (n : ℕ) → least p n < n → p (least p n) ≡ true
+  least-at n l =
+      ⊎-elim (λ h. absurd (omega (arith, least-none n h))) (λ w. ap p (least-is n w) ∙ w .holds) (look n)
+
   pub some-none : (n : ℕ) → None p n → some p n ≡ false
   unfolding some
   some-none n h = rw (least-none n h) (le-ltb n n (omega arith))

@@ -1,7 +1,7 @@
 -- Laws of the bits: the lowest that is 0, and the mark of an access by shift and mask and by the table. Assumes nothing.
 use Prim.Native.Nat.{ℕ, zero, suc, _+_, _-_, _*_, _/_, _%_, _^_, _<_, _≤_}
 use native.Mathlib.Nat.{one-mul, pow-suc, mod-eq-of-lt, not-suc-le-zero, le-of-suc-le-suc}
-use native.Mathlib.Decide.{ℕ-discrete}
+use native.Mathlib.Decide.{ℕ-discrete, decLt}
 use native.Mathlib.Omega.{arith}
 use native.Mathlib.Numerals.{unary-clauses}
 use mathlib.Core.Path.{_≡_, refl, sym, _∙_, ap, ap₂}
@@ -12,44 +12,48 @@ use lib.Bits.{bitOr, or-lt}
 use lib.Count.{trailingZeros}
 use borrow.Author.Tests.{eq-eqb, ne-eqb}
 use Rattle.paper.specs.Lists.{table}
-use Rattle.paper.specs.Machines.{lowestClear, victim, marked}
+use Rattle.paper.specs.Machines.{bitAt, victim, marked}
 use Rattle.paper.specs.NextBits.{nextBits}
+use Rattle.paper.proofs.Least.{least-is}
+use Rattle.paper.proofs.Bits.{bit-zero, bit-suc, all-ones}
 
--- not all of the n+1 low digits of p are 1: the lowest that is 0 is the lowest that is 1 of p's complement
-clear-zeros : (n m p : ℕ) → n < m → p + 1 < 2 ^ suc n → p < 2 ^ m → lowestClear n p ≡ trailingZeros m (2 ^ m - 1 - p)
-unfolding lowestClear trailingZeros
-clear-zeros n zero p h g w = absurd (omega arith)
-clear-zeros zero (suc m) p h g w =
-    let e : (2 ^ suc m - 1 - p) % 2 ≡ 1 = omega (arith, pow-suc 2 m, pow-pos m) in
-    rw e
-clear-zeros (suc n) (suc m) p h g w =
+-- the zeros below the lowest 1 of p's complement are the ones below the lowest 0 of p
+zeros : (m p : ℕ) → p < 2 ^ m → let t = trailingZeros m (2 ^ m - 1 - p) in ((i : ℕ) → i < t → bitAt p i ≡ 1) × (t < m → bitAt p t ≡ 0)
+unfolding trailingZeros
+zeros zero p w = (λ i h. absurd (not-suc-le-zero h), λ h. absurd (not-suc-le-zero h))
+zeros (suc m) p w =
     let d : (2 ^ suc m - 1 - p) / 2 ≡ 2 ^ m - 1 - p / 2 = omega (arith, pow-suc 2 m, pow-pos m) in
     elim (ℕ-discrete (p % 2) 0) [
       | yes e ↦
           let f : (2 ^ suc m - 1 - p) % 2 ≡ 1 = omega (arith, pow-suc 2 m, pow-pos m) in
-          rw (eq-eqb (p % 2) 0 e, f)
-      | no q ↦
+          rw f (λ i h. absurd (not-suc-le-zero h), λ h. bit-zero p ∙ e)
+      | no n ↦
           let f : (2 ^ suc m - 1 - p) % 2 ≡ 0 = omega (arith, pow-suc 2 m, pow-pos m) in
-          rw (ne-eqb (p % 2) 0 q, f, d)
-          (ap suc (clear-zeros n m (p / 2) (omega arith) (omega (arith, pow-suc 2 (suc n))) (omega (arith, pow-suc 2 m))))
+          let r = zeros m (p / 2) (omega (arith, pow-suc 2 m)) in
+          rw (f, d) (more n (r .0), λ h. bit-suc p _ ∙ r .1 (le-of-suc-le-suc h))
     ]
+  where
+    more : {t : ℕ} → (p % 2 ≡ 0 → ⊥) → ((i : ℕ) → i < t → bitAt (p / 2) i ≡ 1) → (i : ℕ) → i < suc t → bitAt p i ≡ 1
+    more n r zero h = bit-zero p ∙ omega arith
+    more n r (suc i) h = bit-suc p i ∙ r i (le-of-suc-le-suc h)
 
-clear-low : (n p : ℕ) → lowestClear n p ≤ n
-unfolding lowestClear
-clear-low zero p = omega arith
-clear-low (suc n) p =
-    let r = clear-low n (p / 2) in
-    elim (ℕ-discrete (p % 2) 0) [ yes e ↦ rw (eq-eqb (p % 2) 0 e) (omega arith) | no q ↦ rw (ne-eqb (p % 2) 0 q) (omega arith) ]
-
-pub victim-low : (k p : ℕ) → 0 < k → victim k p < k
+pub victim-zeros : (k p : ℕ) → k ≤ 8 → p + 1 < 2 ^ k → trailingZeros 32 (2 ^ 32 - 1 - p) ≡ victim k p
 unfolding victim
-victim-low k p h = omega (arith, clear-low (k - 1) p)
-
-pub victim-zeros : (k p : ℕ) → 0 < k → k ≤ 8 → p + 1 < 2 ^ k → trailingZeros 32 (2 ^ 32 - 1 - p) ≡ victim k p
-unfolding victim
-victim-zeros zero p l h g = absurd (omega arith)
-victim-zeros (suc n) p l h g =
-    sym (simp unary-clauses (clear-zeros n 32 p (omega arith) g (omega (arith, pow-mono {i = suc n} {j = 32} (omega arith)))))
+victim-zeros k p h g =
+    let t = trailingZeros 32 (2 ^ 32 - 1 - p) in
+    let z = zeros 32 p (omega (arith, pow-mono {i = k} {j = 32} (omega arith))) in
+    elim (decLt t k) [
+      | yes l ↦
+          sym
+          (least-is _ k
+          (record {
+            at = t;
+            below = l;
+            none = λ i q. ne-eqb (bitAt p i) 0 (omega (arith, z .0 i q));
+            holds = eq-eqb (bitAt p t) 0 (z .1 (omega arith));
+          }))
+      | no l ↦ absurd (omega (arith, all-ones k p (λ i q. z .0 i (omega arith))))
+    ]
 
 -- 1 << j, at a type of w bits
 pub one-shl : (j w : ℕ) → j < w → (1 * 2 ^ j) % 2 ^ w ≡ 2 ^ j

@@ -11,9 +11,9 @@ use lib.ListN.{length, getD, take, drop}
 use lib.Pow.{pow-pos}
 use lib.Seq.{getD-take, getD-drop, length-take-le}
 use Rattle.paper.specs.declared.SetState.{SetState}
-use Rattle.paper.specs.Machines.{none, emptySet, lineOf, hits, offered, inRange, stands, distinct, empty, legalBits, legal, victim}
+use Rattle.paper.specs.Machines.{none, emptySet, lineOf, hits, offered, inRange, stands, distinct, empty, legalBits, legal, bitAt, victim}
 use Rattle.paper.proofs.Says.{Says, holds, fails, says-lt, says-le, says-eq, says-and, says-as, says-is, says-true}
-use Rattle.paper.proofs.Bits.{bitAt, some-way, victim-ones, victim-low, victim-zero, few-bits}
+use Rattle.paper.proofs.Bits.{victim-ones, victim-low, victim-zero, few-bits}
 
 -- "A set has k ways (LRU, FIFO 1 to 8; NMRU 2 to 8)"
 pub record Offered (policy k : ℕ) : Type 0 where
@@ -127,7 +127,7 @@ few-legal policy k bits e h =
     record {
       zeros = λ n. absurd (n e);
       few = λ p. omega arith;
-      free = λ p. (victim k bits, victim-low k bits (some-way k bits h), victim-zero k bits h);
+      free = λ p. (victim k bits, victim-low k bits h, victim-zero k bits h);
     }
 
 pub legal-few : (policy k bits : ℕ) → policy ≡ 2 → LegalBits policy k bits → bits < 2 ^ k - 1
@@ -183,4 +183,4 @@ pub victim-lowest :
     → (victim k (s .bits) < k) × (bitAt (s .bits) (victim k (s .bits)) ≡ 0) × ((i : ℕ) → i < victim k (s .bits) → bitAt (s .bits) i ≡ 1)
 victim-lowest k s h =
     let few = legal-few 2 k (s .bits) refl (says-true (says-legal 2 k s) h .bits) in
-    (victim-low k (s .bits) (some-way k (s .bits) few), victim-zero k (s .bits) few, victim-ones k (s .bits))
+    (victim-low k (s .bits) few, victim-zero k (s .bits) few, victim-ones k (s .bits))

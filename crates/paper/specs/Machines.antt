@@ -5,6 +5,7 @@ use mathlib.Core.List.{List, [], _∷_, _++_}
 use lib.Dec.{eqb, ltb, leb}
 use lib.ListN.{take, drop, set, replicate}
 use lib.Bits.{bitOr}
+use Rattle.paper.specs.Lists.{least}
 use Rattle.paper.specs.declared.SetState.{SetState}
 use Rattle.paper.specs.declared.Stepped.{Stepped}
 
@@ -53,14 +54,13 @@ fifoStep k s b =
       hit = hits k (s .lines) b;
     }
 
--- The lowest of lines 0 to n-1 whose bit is 0; n where all their bits are 1.
-unfoldable pub lowestClear : ℕ → ℕ → ℕ
-lowestClear zero bits = 0
-lowestClear (suc n) bits = cond (eqb (bits % 2) 0) 0 (suc (lowestClear n (bits / 2)))
+-- "Bit i, of value 2^i, is line i's."
+unfoldable pub bitAt : ℕ → ℕ → ℕ
+bitAt bits i = bits / 2 ^ i % 2
 
--- "A miss takes the lowest line whose bit is 0, even where another line is empty." (A legal state has such a line: if none is before it, the last.)
+-- "A miss takes the lowest line whose bit is 0, even where another line is empty."
 unfoldable pub victim : ℕ → ℕ → ℕ
-victim k bits = lowestClear (k - 1) bits
+victim k bits = least (λ i. eqb (bitAt bits i) 0) k
 
 -- "The accessed line's bit becomes 1; if then all k bits are 1, all the others become 0."
 unfoldable pub marked : ℕ → ℕ → ℕ → ℕ

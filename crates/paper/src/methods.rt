@@ -99,7 +99,7 @@ pub fn fifo_lines(lines: &mut [u16; 8], k: usize, b: u16) -> bool
 
 // "A miss takes the lowest line whose bit is 0": at least one of the low k is.
 fn lowest_clear(bits: u8, k: usize) -> usize
-    requires { ⌜ (0 < k) × (k ≤ 8) × (bits + 1 < 2 ^ k) ⌝ }
+    requires { ⌜ (k ≤ 8) × (bits + 1 < 2 ^ k) ⌝ }
     ensures { λ r. ⌜ r ≡ victim k bits ⌝ }
     ensures { λ r. ⌜ r < k ⌝ }
 {

@@ -8,8 +8,8 @@ use native.Mathlib.Omega.{arith}
 use lib.ListN.{length, getD}
 use lib.Seq.{getD-set-same, getD-set-other}
 use Rattle.paper.specs.declared.SetState.{SetState}
-use Rattle.paper.specs.Machines.{none}
-use Rattle.paper.proofs.Bits.{bitAt, Rest, same, flipped, marked-own, marked-rest}
+use Rattle.paper.specs.Machines.{none, bitAt}
+use Rattle.paper.proofs.Bits.{Rest, same, flipped, marked-own, marked-rest}
 use Rattle.theory.proofs.Count.{sum, one, cnt, one-yes, one-no}
 use Rattle.theory.proofs.Ideal.{miss, spot, nmru, LegalWays}
 use Rattle.theory.proofs.Pigeon.{pigeon, line-holds}
