@@ -1,3 +1,1 @@
-pub mod Kept
-pub mod Offered
 pub mod Search

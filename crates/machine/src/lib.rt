@@ -19,16 +19,6 @@ use paper::SetState;
 use paper::StepAnswer;
 use paper::Stepped;
 
-// "A set has k ways (LRU, FIFO 1 to 8; NMRU 2 to 8)"
-pub fn is_offered(policy: u8, ways: u8) -> bool
-    ensures { λ r. ⌜ r ≡ Machines.offered policy ways ⌝ }
-{
-    if policy == 2 {
-        return (ways <= 8) & (1 < ways);
-    }
-    (policy <= 2) & ((ways <= 8) & (0 < ways))
-}
-
 // One step of the policy's machine.
 fn take_step(policy: u8, k: usize, state: SetState, block: Block) -> Stepped
     requires { ⌜ Machines.offered policy k ≡ true ⌝ }
@@ -78,7 +68,7 @@ pub fn step(policy: u8, ways: u8, state: SetState, block: Block) -> StepAnswer
     ensures { λ r. ⌜ r ≡ Operations.stepAnswer policy ways state block ⌝ }
 {
     let b = block.0;
-    if !is_offered(policy, ways) {
+    if !paper::is_offered(policy, ways) {
         return refused(state, 3);
     }
     let k = ways as usize;
@@ -119,12 +109,12 @@ pub fn block_of(address: Address, line_size: u32) -> BlockAnswer
 pub fn set_of(block: Block, sets: u8) -> SetAnswer
     ensures { λ r. ⌜ r ≡ Operations.setAnswer block sets ⌝ }
 {
-    if !((0 < sets) & (sets <= 64)) {
+    if !paper::is_set_count(sets) {
         return SetAnswer::Refused(paper::refuse(3, 0));
     }
     if block.0 == 65535 {
         return SetAnswer::Refused(paper::refuse(21, 0));
     }
-    let r = block.0 % (sets as u16);
-    SetAnswer::Found(SetNumber(r as u8))
+    let q = paper::home(block.0, sets);
+    SetAnswer::Found(SetNumber(q as u8))
 }

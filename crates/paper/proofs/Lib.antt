@@ -17,3 +17,4 @@ pub mod Lines
 pub mod Carries
 pub mod Masks
 pub mod Moves
+pub mod StepLaws

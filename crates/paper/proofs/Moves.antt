@@ -1,27 +1,27 @@
 -- The steps of the three machines, from what the parts of the code give: the line of b, the shifted lines, the new bits. Assumes nothing.
-use Prim.Native.Nat.{ℕ, _<_, _≤_, min}
-use native.Mathlib.Nat.{not-suc-le-zero, le-of-suc-le-suc}
-use native.Mathlib.Decide.{ℕ-discrete}
+use Prim.Native.Nat.{ℕ, _+_, _^_, _<_, _≤_, min}
 use native.Mathlib.Omega.{arith}
 use mathlib.Core.Path.{_≡_, sym, _∙_, ap}
 use mathlib.Core.Bool.{true, false}
-use mathlib.Core.List.{List, [], _∷_}
-use lib.ListN.{length, getD, set}
+use mathlib.Core.List.{List}
+use lib.ListN.{length, getD, drop, set}
 use lib.Seq.{set-getD}
-use borrow.Author.Tests.{eq-eqb, ne-eqb}
-use Rattle.paper.specs.Machines.{none, lineOf, pushed, oneDown, victim, marked, nmruLine, lruStep, fifoStep, nmruStep}
+use Rattle.paper.specs.declared.SetState.{SetState}
+use Rattle.paper.specs.Machines.{none, lineOf, pushed, oneDown, victim, marked, nmruLine, lruStep, fifoStep, nmruStep, distinct, empty, legal}
 use Rattle.paper.specs.Ready.{Ready, stateOf, steppedOf}
+use Rattle.paper.proofs.Says.{says-true, both}
+use Rattle.paper.proofs.States.{Offered, legal-few, says-legal, line-at}
 use Rattle.paper.proofs.Lines.{line-hit, hit-yes, hit-no, one-down}
 
--- b stands in its line
-pub line-at : (l : List ℕ) (b : ℕ) → lineOf l b < length l → getD l (lineOf l b) 0 ≡ b
-unfolding lineOf
-line-at [] b h = absurd (not-suc-le-zero h)
-line-at (x ∷ l) b h = go (ℕ-discrete x b) (line-at l b)
-  where
-    go : Dec (x ≡ b) → (lineOf l b < length l → getD l (lineOf l b) 0 ≡ b) → getD (x ∷ l) (lineOf (x ∷ l) b) 0 ≡ b
-    go (yes e) r = unfold lineOf in rw (eq-eqb x b e) e
-    go (no n) r = unfold lineOf in rw (ne-eqb x b n) (r (le-of-suc-le-suc (rw (ne-eqb x b n) at h)))
+-- what a step on the lines asks for, of a legal state
+module _ (p k : ℕ) (s : SetState) (l : legal p k s ≡ true) where
+  pub legal-ready : Offered p k → Ready k (s .lines)
+  unfolding legal
+  legal-ready o =
+      record { low = o .least; high = o .most; beyond = both (empty (drop k (s .lines))) _ (both (distinct (s .lines)) _ l .1) .0 }
+
+  pub nmru-bits : p ≡ 2 → s .bits + 1 < 2 ^ k
+  nmru-bits e = omega (arith, legal-few p k (s .bits) e (says-true (says-legal p k s) l .bits))
 
 module _ (k : ℕ) (l : List ℕ) (n b j : ℕ) (r : Ready k l) (w : length l ≡ 8) (e : j ≡ lineOf l b) where
   fits : k ≤ length l
@@ -30,7 +30,7 @@ module _ (k : ℕ) (l : List ℕ) (n b j : ℕ) (r : Ready k l) (w : length l �
   same-line : j < k → set l j b ≡ l
   same-line h =
       let g : lineOf l b < length l = omega (arith, fits) in
-      ap (λ (x : ℕ). set l j x) (sym (line-at l b g) ∙ ap (λ (i : ℕ). getD l i 0) (sym e)) ∙ set-getD l j 0
+      ap (λ (x : ℕ). set l j x) (sym (line-at l b 0 g) ∙ ap (λ (i : ℕ). getD l i 0) (sym e)) ∙ set-getD l j 0
 
   -- lines moved up to line i, line k emptied again
   missed : (i : ℕ) (p m : List ℕ) → i < 8 → min k 7 ≤ i → p ≡ pushed i l b → m ≡ set p k none → m ≡ oneDown k l b

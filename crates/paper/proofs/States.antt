@@ -11,7 +11,7 @@ use lib.ListN.{length, getD, take, drop}
 use lib.Pow.{pow-pos}
 use lib.Seq.{getD-take, getD-drop, length-take-le}
 use Rattle.paper.specs.declared.SetState.{SetState}
-use Rattle.paper.specs.Machines.{none, emptySet, lineOf, hits, offered, inRange, stands, distinct, empty, legalBits, legal, bitAt, victim}
+use Rattle.paper.specs.Machines.{none, emptySet, lineOf, hits, offered, setCount, inRange, stands, distinct, empty, legalBits, legal, bitAt, victim}
 use Rattle.paper.proofs.Says.{Says, holds, fails, says-lt, says-le, says-eq, says-and, says-as, says-is, says-true}
 use Rattle.paper.proofs.Bits.{victim-ones, victim-low, victim-zero, few-bits}
 
@@ -41,9 +41,13 @@ says-offered policy k =
     ]
 
 -- "With S sets (1 to 64)"
+pub says-sets : (sets : ℕ) → Says ((0 < sets) × (sets ≤ 64)) (setCount sets)
+unfolding setCount
+says-sets sets = says-and (says-lt 0 sets) (says-le sets 64)
+
 pub says-range : (policy k sets : ℕ) → Says (Offered policy k × ((0 < sets) × (sets ≤ 64))) (inRange policy k sets)
 unfolding inRange
-says-range policy k sets = says-and (says-offered policy k) (says-and (says-lt 0 sets) (says-le sets 64))
+says-range policy k sets = says-and (says-offered policy k) (says-sets sets)
 
 -- the line of a block: it holds the block, and no line before it does
 pub line-at : (l : List ℕ) (b d : ℕ) → lineOf l b < length l → getD l (lineOf l b) d ≡ b

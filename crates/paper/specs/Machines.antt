@@ -86,8 +86,11 @@ unfoldable pub offered : ℕ → ℕ → Bool
 offered policy k = leb policy 2 && (leb k 8 && ltb (cond (eqb policy 2) 1 0) k)
 
 -- "With S sets (1 to 64)"
+unfoldable pub setCount : ℕ → Bool
+setCount sets = ltb 0 sets && leb sets 64
+
 unfoldable pub inRange : ℕ → ℕ → ℕ → Bool
-inRange policy k sets = offered policy k && (ltb 0 sets && leb sets 64)
+inRange policy k sets = offered policy k && setCount sets
 
 unfoldable pub stands : List ℕ → ℕ → Bool
 stands [] b = false

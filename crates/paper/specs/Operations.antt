@@ -1,8 +1,8 @@
 -- The single step, blocks of addresses, and sets of blocks, for every input. "Step: 3, 22, 21. Address: 23, 21."
 use Prim.Native.Nat.{ℕ, _/_, _%_}
-use mathlib.Core.Bool.{Bool, true, false, cond, not, _&&_}
+use mathlib.Core.Bool.{Bool, cond, not}
 use mathlib.Core.List.{[], _∷_}
-use lib.Dec.{eqb, ltb, leb}
+use lib.Dec.{eqb, ltb}
 use Rattle.paper.specs.declared.SetState.{SetState}
 use Rattle.paper.specs.declared.Stepped.{Stepped}
 use Rattle.paper.specs.declared.Address.{Address}
@@ -14,7 +14,7 @@ use Rattle.paper.specs.declared.BlockAnswer.the-variants as BlockAnswers
 use Rattle.paper.specs.declared.SetAnswer.{SetAnswer}
 use Rattle.paper.specs.declared.SetAnswer.the-variants as SetAnswers
 use Rattle.paper.specs.Answers.{refuse}
-use Rattle.paper.specs.Machines.{none, step, stands, offered, legal}
+use Rattle.paper.specs.Machines.{none, step, stands, offered, setCount, legal}
 
 -- "a refused step hands back the state it was given"
 abbrev pub refusedStep : SetState → ℕ → StepAnswer
@@ -43,5 +43,5 @@ blockAnswer a n =
 -- "block b lives in set b mod S"
 unfoldable pub setAnswer : Block → ℕ → SetAnswer
 setAnswer b sets =
-    cond (not (ltb 0 sets && leb sets 64)) (SetAnswers.Refused (refuse 3 0))
+    cond (not (setCount sets)) (SetAnswers.Refused (refuse 3 0))
     (cond (eqb (b .0) none) (SetAnswers.Refused (refuse 21 0)) (SetAnswers.Found (record { 0 = b .0 % sets })))

@@ -1,10 +1,14 @@
 // The types that cross crate borders. What they mean stands in specs/, section by section of the paper.
 ghost use mathlib.Core.Path.{_≡_};
-ghost use Prim.Native.Nat.{_%_, _<_, _≤_};
 ghost use Rattle.paper.specs.Answers as Answers;
 
+mod cache;
 mod methods;
 
+pub use cache::home;
+pub use cache::is_in_range;
+pub use cache::is_offered;
+pub use cache::is_set_count;
 pub use methods::fifo_lines;
 pub use methods::lru_lines;
 pub use methods::nmru_lines;
@@ -97,13 +101,4 @@ pub fn refuse(number: u8, place: usize) -> Refusal
         number: number,
         place: place,
     }
-}
-
-// "block b lives in set b mod S"
-pub fn home(b: u16, sets: u8) -> u16
-    requires { ⌜ (0 < sets) × (sets ≤ 64) ⌝ }
-    ensures { λ r. ⌜ r ≡ b % sets ⌝ }
-    ensures { λ r. ⌜ r < 64 ⌝ }
-{
-    b % (sets as u16)
 }

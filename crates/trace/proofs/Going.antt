@@ -15,8 +15,11 @@ use Rattle.paper.specs.Lists.{bit}
 use Rattle.paper.specs.Machines.{none, emptySet, step}
 use Rattle.paper.specs.Ready.{Ready, stateOf, steppedOf}
 use Rattle.paper.specs.Traces.{Content, after, missAt, marks, total, badAccess}
-use Rattle.machine.proofs.Kept.{Well, step-well, empty-well}
-use Rattle.machine.proofs.Offered.{legal-ready, nmru-bits}
+use Rattle.paper.specs.Runs.{LegalSet}
+use Rattle.paper.proofs.Says.{says-true}
+use Rattle.paper.proofs.States.{says-offered, empty-legal}
+use Rattle.paper.proofs.Moves.{legal-ready, nmru-bits}
+use Rattle.theory.proofs.View as View
 use Rattle.trace.specs.Runs.{held, made, Runs, Ran}
 
 same-content : {c d : Content} → ((q : ℕ) → c q ≡ d q) → c ≡ d
@@ -74,7 +77,7 @@ pub record Going (p k sets : ℕ) (blocks lent out : List ℕ) (lines : List (Li
   pub few : misses ≤ i
   pub rows : length lines ≡ 64
   pub same : length out ≡ length lent
-  pub well : (q : ℕ) → Well p k (held lines bits q)
+  pub legal : (q : ℕ) → LegalSet p k (held lines bits q)
 
 module _ (p k sets : ℕ) (blocks lent : List ℕ) (ok : Runs p k sets blocks lent) where
   pub going-start : (bits : List ℕ) → ((q : ℕ) → getD bits q 0 ≡ 0) → Going p k sets blocks lent lent (replicate 64 (replicate 8 none)) bits 0 0
@@ -89,7 +92,7 @@ module _ (p k sets : ℕ) (blocks lent : List ℕ) (ok : Runs p k sets blocks le
         few = omega arith;
         rows = refl;
         same = refl;
-        well = λ q. subst (Well p k) (sym (e q)) (empty-well p k (ok .offers));
+        legal = λ q. subst (LegalSet p k) (sym (e q)) (record { eight = refl; legal = empty-legal p k (says-true (says-offered p k) (ok .offers) .least) });
       }
 
   -- an access: the set's new lines and bits, its mark
@@ -120,17 +123,13 @@ module _ (p k sets : ℕ) (blocks lent : List ℕ) (ok : Runs p k sets blocks le
     after-is : held (set lines at row) bits′ ≡ after p k sets (held lines bits) b
     after-is = same-content (λ q. after-at q (ℕ-discrete q at))
 
-    not-none : b ≡ none → ⊥
-    unfolding badAccess
-    not-none e = eqb-false (getD blocks i 0) none (ok .good i h) (sym eb ∙ e)
-
-    kept : (q : ℕ) → Dec (q ≡ at) → Well p k (held (set lines at row) bits′ q)
+    kept : (q : ℕ) → Dec (q ≡ at) → LegalSet p k (held (set lines at row) bits′ q)
     unfolding held
     kept q (yes e) =
-        subst (λ (x : ℕ). Well p k (held (set lines at row) bits′ x)) (sym e)
-        (subst (Well p k) (sym set-is) (step-well p k (ok .offers) (held lines bits at) b not-none (g .well at)))
+        subst (λ (x : ℕ). LegalSet p k (held (set lines at row) bits′ x)) (sym e)
+        (subst (LegalSet p k) (sym set-is) (View.kept p k (held lines bits at) b (ok .offers) (g .legal at)))
     kept q (no f) =
-        subst (Well p k) (sym (ap₂ stateOf (getD-set-other lines at q row (replicate 8 none) f) (there q f))) (g .well q)
+        subst (LegalSet p k) (sym (ap₂ stateOf (getD-set-other lines at q row (replicate 8 none) f) (there q f))) (g .legal q)
 
     marked : (m : ℕ) → m ≡ bit (not hit) → m ≡ getD (made p k sets blocks) i 0
     unfolding missAt
@@ -156,7 +155,7 @@ module _ (p k sets : ℕ) (blocks lent : List ℕ) (ok : Runs p k sets blocks le
           few = omega (arith, g .few);
           rows = length-set lines at row ∙ g .rows;
           same = length-set out i m ∙ g .same;
-          well = λ q. kept q (ℕ-discrete q at);
+          legal = λ q. kept q (ℕ-discrete q at);
         }
 
   -- what a step on the set's lines asks for
@@ -167,12 +166,12 @@ module _ (p k sets : ℕ) (blocks lent : List ℕ) (ok : Runs p k sets blocks le
     pub row-ready : Ready k (getD lines at []) × (length (getD lines at []) ≡ 8)
     unfolding held
     row-ready =
-        let w = g .well at in
-        (subst (Ready k) (sym row-is) (legal-ready p k (held lines bits at) (w .is-legal) (ok .offers)), ap length row-is ∙ w .eight)
+        let w = g .legal at in
+        (subst (Ready k) (sym row-is) (legal-ready p k (held lines bits at) (w .legal) (says-true (says-offered p k) (ok .offers))), ap length row-is ∙ w .eight)
 
     pub row-bits : p ≡ 2 → getD bits at 0 + 1 < 2 ^ k
     unfolding held
-    row-bits e = nmru-bits p k (held lines bits at) (g .well at .is-legal) e
+    row-bits e = nmru-bits p k (held lines bits at) (g .legal at .legal) e
 
   pub going-end : (out : List ℕ) (lines : List (List ℕ)) (bits : List ℕ) (misses i : ℕ) → Going p k sets blocks lent out lines bits misses i → length blocks ≤ i → Ran p k sets blocks lent misses out
   unfolding made

@@ -2,17 +2,17 @@
 use Prim.Native.Nat.{ℕ, _<_, _≤_}
 use native.Mathlib.Omega.{arith}
 use mathlib.Core.Path.{_≡_}
-use mathlib.Core.Bool.{true, false, _&&_}
+use mathlib.Core.Bool.{true, false}
 use mathlib.Core.List.{List}
-use lib.Dec.{ltb, leb}
 use lib.ListN.{length}
-use borrow.Author.Tests.{lt-ltb, le-ltb, ltb-true, leb-true}
+use borrow.Author.Tests.{lt-ltb, le-ltb}
 use Rattle.paper.specs.declared.TraceAnswer.the-variants.{Misses}
 use Rattle.paper.specs.Lists.{least, some}
-use Rattle.paper.specs.Machines.{emptySet, offered, inRange}
+use Rattle.paper.specs.Machines.{emptySet, offered, setCount, inRange}
 use Rattle.paper.specs.Traces.{refusedRun, badAccess, traceRun}
 use Rattle.paper.proofs.Least.{none-some}
-use Rattle.machine.proofs.Offered.{and-left, and-right}
+use Rattle.paper.proofs.Says.{says-true, both}
+use Rattle.paper.proofs.States.{says-sets}
 use Rattle.trace.specs.Runs.{made, Runs, Ran}
 use Rattle.trace.proofs.Going.{length-marks}
 
@@ -41,13 +41,7 @@ module _ (p w s : ℕ) (bs ms : List ℕ) where
           rw (e, le-ltb (length ms) (length bs) h, no-bad g, r .counted, r .written, ← length-marks p w s (λ q. emptySet) bs)
 
       pub runs : length bs ≤ j → Runs p w s bs ms
-      unfolding inRange
       runs g =
-          let r = and-right (offered p w) (ltb 0 s && leb s 64) e in
-          record {
-            offers = and-left (offered p w) (ltb 0 s && leb s 64) e;
-            low = ltb-true 0 s (and-left (ltb 0 s) (leb s 64) r);
-            high = leb-true s 64 (and-right (ltb 0 s) (leb s 64) r);
-            room = h;
-            good = none-some (badAccess bs) (length bs) (no-bad g);
-          }
+          let r = both (offered p w) (setCount s) (unfold inRange in e) in
+          let q = says-true (says-sets s) (r .1) in
+          record { offers = r .0; low = q .0; high = q .1; room = h; good = none-some (badAccess bs) (length bs) (no-bad g) }

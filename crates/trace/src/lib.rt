@@ -1,10 +1,11 @@
 // The trace run: every access steps the machine of its set.
 ghost use mathlib.Core.Path.{_≡_};
 ghost use mathlib.Core.Bool.{not};
-ghost use Prim.Native.Nat.{_%_, _<_, _≤_};
+ghost use Prim.Native.Nat.{ℕ, _<_, _≤_};
 ghost use lib.ListN.{length};
 ghost use Rattle.paper.specs.Lists as Lists;
 ghost use Rattle.paper.specs.Machines as Machines;
+ghost use Rattle.paper.specs.Ready.{Ready, stateOf, steppedOf};
 ghost use Rattle.paper.specs.Traces as Traces;
 ghost use Rattle.trace.specs.Runs.{Runs, Ran};
 use paper::TraceAnswer;
@@ -23,16 +24,6 @@ fn bad_access(blocks: &[u16]) -> usize
     i
 }
 
-// "block b lives in set b mod S"
-fn set_at(b: u16, sets: u8) -> usize
-    requires { ⌜ (0 < sets) × (sets ≤ 64) ⌝ }
-    ensures { λ r. ⌜ r ≡ b % sets ⌝ }
-    ensures { λ r. ⌜ r < 64 ⌝ }
-{
-    let r = (b as u32) % (sets as u32);
-    r as usize
-}
-
 // "1 for a miss and 0 for a hit"
 fn mark_of(hit: bool) -> u8
     ensures { λ r. ⌜ r ≡ Lists.bit (not hit) ⌝ }
@@ -41,35 +32,32 @@ fn mark_of(hit: bool) -> u8
     if hit { 0 } else { 1 }
 }
 
-fn lru_run(k: usize, sets: u8, blocks: &[u16], marks: &mut [u8]) -> usize
-    requires { ⌜ Runs 0 k sets (now blocks) (now marks) ⌝ }
-    ensures { λ r. ⌜ Ran 0 k sets (now (blocks .entry)) (now (marks .entry)) r (now (marks .exit)) ⌝ }
+// One step of LRU or FIFO, whatever the bits n beside the lines.
+fn step_lines(policy: u8, lines: &mut [u16; 8], k: usize, b: u16) -> bool
+    requires { ⌜ policy < 2 ⌝ }
+    requires { ⌜ Ready k (now lines) ⌝ }
+    requires { ⌜ length (now lines) ≡ 8 ⌝ }
+    ensures { λ r. ⌜ ((n : ℕ) → steppedOf (now (lines .exit)) n r ≡ Machines.step policy k (stateOf (now (lines .entry)) n) b) ⌝ }
 {
-    let mut lines = [[65535u16; 8]; 64];
-    let mut misses: usize = 0;
-    let mut i: usize = 0;
-    while i < blocks.len() {
-        let b = blocks[i];
-        let at = set_at(b, sets);
-        let m = mark_of(paper::lru_lines(&mut lines[at], k, b));
-        marks[i] = m;
-        misses += m as usize;
-        i += 1;
+    if policy == 0 {
+        return paper::lru_lines(lines, k, b);
     }
-    misses
+    paper::fifo_lines(lines, k, b)
 }
 
-fn fifo_run(k: usize, sets: u8, blocks: &[u16], marks: &mut [u8]) -> usize
-    requires { ⌜ Runs 1 k sets (now blocks) (now marks) ⌝ }
-    ensures { λ r. ⌜ Ran 1 k sets (now (blocks .entry)) (now (marks .entry)) r (now (marks .exit)) ⌝ }
+// LRU and FIFO, which have no bits.
+fn lines_run(policy: u8, k: usize, sets: u8, blocks: &[u16], marks: &mut [u8]) -> usize
+    requires { ⌜ policy < 2 ⌝ }
+    requires { ⌜ Runs policy k sets (now blocks) (now marks) ⌝ }
+    ensures { λ r. ⌜ Ran policy k sets (now (blocks .entry)) (now (marks .entry)) r (now (marks .exit)) ⌝ }
 {
     let mut lines = [[65535u16; 8]; 64];
     let mut misses: usize = 0;
     let mut i: usize = 0;
     while i < blocks.len() {
         let b = blocks[i];
-        let at = set_at(b, sets);
-        let m = mark_of(paper::fifo_lines(&mut lines[at], k, b));
+        let at = paper::home(b, sets) as usize;
+        let m = mark_of(step_lines(policy, &mut lines[at], k, b));
         marks[i] = m;
         misses += m as usize;
         i += 1;
@@ -88,7 +76,7 @@ fn nmru_run(k: usize, sets: u8, blocks: &[u16], marks: &mut [u8]) -> usize
     let mut i: usize = 0;
     while i < blocks.len() {
         let b = blocks[i];
-        let at = set_at(b, sets);
+        let at = paper::home(b, sets) as usize;
         let t = paper::nmru_lines(&mut lines[at], bits[at], k, b, &next);
         bits[at] = t.bits;
         let m = mark_of(t.hit);
@@ -99,25 +87,15 @@ fn nmru_run(k: usize, sets: u8, blocks: &[u16], marks: &mut [u8]) -> usize
     misses
 }
 
-// "With S sets (1 to 64)"
-fn is_in_range(policy: u8, ways: u8, sets: u8) -> bool
-    ensures { λ r. ⌜ r ≡ Machines.inRange policy ways sets ⌝ }
-{
-    machine::is_offered(policy, ways) & ((0 < sets) & (sets <= 64))
-}
-
 // The policy is chosen once, before the first access.
 fn run(policy: u8, k: usize, sets: u8, blocks: &[u16], marks: &mut [u8]) -> usize
     requires { ⌜ Runs policy k sets (now blocks) (now marks) ⌝ }
     ensures { λ r. ⌜ Ran policy k sets (now (blocks .entry)) (now (marks .entry)) r (now (marks .exit)) ⌝ }
 {
-    if policy == 0 {
-        return lru_run(k, sets, blocks, marks);
+    if policy == 2 {
+        return nmru_run(k, sets, blocks, marks);
     }
-    if policy == 1 {
-        return fifo_run(k, sets, blocks, marks);
-    }
-    nmru_run(k, sets, blocks, marks)
+    lines_run(policy, k, sets, blocks, marks)
 }
 
 // "Trace run: 3, 20, 21."
@@ -125,7 +103,7 @@ pub fn trace_run(policy: u8, ways: u8, sets: u8, blocks: &[u16], marks: &mut [u8
     ensures { λ r. ⌜ r ≡ Traces.traceRun policy ways sets (now (blocks .entry)) (now (marks .entry)) .answer ⌝ }
     ensures { λ r. ⌜ now (marks .exit) ≡ Traces.traceRun policy ways sets (now (blocks .entry)) (now (marks .entry)) .marks ⌝ }
 {
-    if !is_in_range(policy, ways, sets) {
+    if !paper::is_in_range(policy, ways, sets) {
         return TraceAnswer::Refused(paper::refuse(3, 0));
     }
     if marks.len() < blocks.len() {

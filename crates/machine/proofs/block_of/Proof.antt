@@ -1,11 +1,19 @@
 -- `machine::block_of` meets its contract. Assumes nothing.
-use mathlib.Core.Path.{sym, _∙_}
+use Prim.Native.Nat.{ℕ, zero, suc, _<_}
+use native.Mathlib.Omega.{arith}
+use mathlib.Core.Path.{_≡_, sym, _∙_}
+use mathlib.Core.Bool.{true, false≢true}
 use borrow.Author.Tests.{not-false, lt-ltb, le-ltb}
-use Rattle.paper.specs.Operations.{blockAnswer}
-use Rattle.machine.proofs.Offered.{size-low}
+use Rattle.paper.specs.Machines.{stands}
+use Rattle.paper.specs.Operations.{lineSize, blockAnswer}
 use borrow.Author.Needs.{needs}
 use Rattle.machine.proofs.block_of.Statement.{statement}
 use Rattle.machine.proofs.block_of.Tie as tie
+
+size-low : (n : ℕ) → lineSize n ≡ true → 0 < n
+unfolding lineSize stands
+size-low zero e = absurd (false≢true e)
+size-low (suc n) e = omega arith
 
 returns : tie.Need-returns
 unfolding blockAnswer

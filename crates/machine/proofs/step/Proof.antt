@@ -1,33 +1,44 @@
 -- `machine::step` meets its contract. Assumes nothing.
 use mathlib.Core.Path.{sym, _∙_}
-use borrow.Author.Tests.{not-false, eq-eqb, ne-eqb}
-use Rattle.paper.specs.Operations.{stepAnswer}
-use Rattle.machine.proofs.Offered.{at-most}
+use borrow.Author.Tests.{not-true, not-false}
+use Rattle.paper.proofs.Says.{says-true}
+use Rattle.paper.proofs.States.{says-offered}
+use Rattle.paper.proofs.StepLaws.{step-3, step-22, step-21, step-taken}
 use borrow.Author.Needs.{needs}
 use Rattle.machine.proofs.step.Statement.{statement}
 use Rattle.machine.proofs.step.Tie as tie
 
 returns : tie.Need-returns
-unfolding stepAnswer
-returns c = rw (← c .before .before .is-offered .ensures, c .before .if1 .taken, ← c .refused .ensures)
+returns c =
+    c .refused .ensures
+    ∙ sym (step-3 _ _ _ _ (sym (c .before .before .is-offered .ensures) ∙ not-true _ (c .before .if1 .taken)))
 
 is-legal-requires : tie.Need-is-legal-requires
-is-legal-requires c κs = at-most _ _ (sym (c .before .is-offered .ensures) ∙ not-false _ (c .if1 .left))
+is-legal-requires c κs = says-true (says-offered _ _) (sym (c .before .is-offered .ensures) ∙ not-false _ (c .if1 .left)) .most
 
 returns-2 : tie.Need-returns-2
-unfolding stepAnswer
-returns-2 c = rw (← c .before .before .before .before .is-offered .ensures, c .before .before .before .if1 .left, ← c .before .before .is-legal .ensures, c .before .if2 .taken, ← c .refused2 .ensures)
+returns-2 c =
+    let l = c .before .before in
+    let o = sym (l .before .before .is-offered .ensures) ∙ not-false _ (l .before .if1 .left) in
+    c .refused2 .ensures ∙ sym (step-22 _ _ _ _ o (sym (l .is-legal .ensures) ∙ not-true _ (c .before .if2 .taken)))
 
 returns-3 : tie.Need-returns-3
-unfolding stepAnswer
-returns-3 c = rw (← c .before .before .before .before .before .is-offered .ensures, c .before .before .before .before .if1 .left, ← c .before .before .before .is-legal .ensures, c .before .before .if2 .left, eq-eqb _ _ (c .before .if3 .taken), ← c .refused3 .ensures)
+returns-3 c =
+    let l = c .before .before .before in
+    let o = sym (l .before .before .is-offered .ensures) ∙ not-false _ (l .before .if1 .left) in
+    c .refused3 .ensures ∙ sym (step-21 _ _ _ _ o (sym (l .is-legal .ensures) ∙ not-false _ (c .before .before .if2 .left)) (c .before .if3 .taken))
 
 take-step-requires : tie.Need-take-step-requires
-take-step-requires c κs = (sym (c .before .before .before .before .is-offered .ensures) ∙ not-false _ (c .before .before .before .if1 .left), sym (c .before .before .is-legal .ensures) ∙ not-false _ (c .before .if2 .left))
+take-step-requires c κs =
+    let l = c .before .before in
+    (sym (l .before .before .is-offered .ensures) ∙ not-false _ (l .before .if1 .left), sym (l .is-legal .ensures) ∙ not-false _ (c .before .if2 .left))
 
 returns-4 : tie.Need-returns-4
-unfolding stepAnswer
-returns-4 c = rw (← c .before .before .before .before .before .before .is-offered .ensures, c .before .before .before .before .before .if1 .left, ← c .before .before .before .before .is-legal .ensures, c .before .before .before .if2 .left, ne-eqb _ _ (c .before .before .if3 .left), ← c .before .take-step .ensures, ← c .took .ensures)
+returns-4 c =
+    let l = c .before .before .before .before in
+    let o = sym (l .before .before .is-offered .ensures) ∙ not-false _ (l .before .if1 .left) in
+    c .took .ensures
+    ∙ rw (c .before .take-step .ensures) (sym (step-taken _ _ _ _ o (sym (l .is-legal .ensures) ∙ not-false _ (c .before .before .before .if2 .left)) (c .before .before .if3 .left)))
 
 pub step-spec : {M : Type 1} → statement M
 step-spec =

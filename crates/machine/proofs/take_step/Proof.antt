@@ -4,19 +4,21 @@ use borrow.Author.Needs.{needs}
 use mathlib.Core.Path.{sym, _∙_}
 use borrow.Author.Tests.{eq-eqb, ne-eqb}
 use Rattle.paper.specs.Machines.{step}
-use Rattle.machine.proofs.Offered.{policy-low, legal-ready, nmru-bits}
+use Rattle.paper.proofs.Says.{says-true}
+use Rattle.paper.proofs.States.{says-offered}
+use Rattle.paper.proofs.Moves.{legal-ready, nmru-bits}
 use Rattle.machine.proofs.take_step.Statement.{statement}
 use Rattle.machine.proofs.take_step.Tie as tie
 
 lru-requires : tie.Need-lru-requires
-lru-requires c κs = legal-ready _ _ _ (c .before .pre .1) (c .before .pre .0)
+lru-requires c κs = legal-ready _ _ _ (c .before .pre .1) (says-true (says-offered _ _) (c .before .pre .0))
 
 returns : tie.Need-returns
 unfolding step
 returns c = c .lru .ensures ∙ sym (rw (eq-eqb _ _ (c .before .if1 .taken)))
 
 fifo-requires : tie.Need-fifo-requires
-fifo-requires c κs = legal-ready _ _ _ (c .before .before .pre .1) (c .before .before .pre .0)
+fifo-requires c κs = legal-ready _ _ _ (c .before .before .pre .1) (says-true (says-offered _ _) (c .before .before .pre .0))
 
 returns-2 : tie.Need-returns-2
 unfolding step
@@ -25,7 +27,8 @@ returns-2 c = c .fifo .ensures ∙ sym (rw (ne-eqb _ _ (c .before .before .if1 .
 nmru-requires : tie.Need-nmru-requires
 nmru-requires c κs =
     let s = c .before .before .before .before in
-    (legal-ready _ _ _ (s .pre .1) (s .pre .0), (nmru-bits _ _ _ (s .pre .1) (omega (arith, policy-low _ _ (s .pre .0))), c .before .next-bits .ensures))
+    let o = says-true (says-offered _ _) (s .pre .0) in
+    (legal-ready _ _ _ (s .pre .1) o, (nmru-bits _ _ _ (s .pre .1) (omega (arith, o .known)), c .before .next-bits .ensures))
 
 returns-3 : tie.Need-returns-3
 unfolding step

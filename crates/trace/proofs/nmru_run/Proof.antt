@@ -23,7 +23,7 @@ nmru-lines-requires : tie.Need-nmru-lines-requires Inv-loop μ-loop
 nmru-lines-requires c κs =
     let s = c .before .before .before .before .before .before .before .before .before in
     let v = c .before .before .before .before .before .loop in
-    let a = c .before .before .set-at in
+    let a = c .before .before .home in
     let r = row-ready 2 _ _ _ _ (s .pre) _ (v .lines) (v .bits) _ _ (v .inv .0) (a .result) (a .ensures .1) in
     (r .0, (r .1, (row-bits 2 _ _ _ _ (s .pre) _ (v .lines) (v .bits) _ _ (v .inv .0) (a .result) (a .ensures .1) refl, c .before .before .before .before .before .before .next-bits .ensures)))
 
@@ -32,7 +32,7 @@ unfolding step
 loop-again c =
     let s = c .before .before .before .before .before .before .before .before .before .before .before in
     let v = c .before .before .before .before .before .before .before .loop in
-    let a = c .before .before .before .before .set-at in
+    let a = c .before .before .before .before .home in
     let t = c .before .nmru-lines in (
       going-more 2 _ _ _ _ (s .pre) _ (v .lines) (v .bits) _ (v .i) (v .inv .0) (omega arith) _ (a .result) refl (a .ensures .0) (a .ensures .1) _ (t .result .bits) (t .result .hit) (t .ensures) _
           (getD-set-same (v .bits) (a .result) (t .result .bits) 0 (omega arith)) (λ q f. getD-set-other (v .bits) (a .result) q (t .result .bits) 0 f) _ (c .mark-of .ensures .0) (c .mark-of .ensures .1),
@@ -50,6 +50,7 @@ nmru-run-spec =
     (λ c. search needs)
     (λ c. search needs)
     (λ c κs. search needs)
+    (λ c. search needs)
     (λ c. search needs)
     (λ c. search needs)
     (λ c. search needs)

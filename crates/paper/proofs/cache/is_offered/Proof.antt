@@ -1,8 +1,8 @@
--- `machine::is_offered` meets its contract. Assumes nothing.
+-- `paper::cache::is_offered` meets its contract. Assumes nothing.
 use borrow.Author.Tests.{ne-eqb}
 use Rattle.paper.specs.Machines.{offered}
-use Rattle.machine.proofs.is_offered.Statement.{statement}
-use Rattle.machine.proofs.is_offered.Tie as tie
+use Rattle.paper.proofs.cache.is_offered.Statement.{statement}
+use Rattle.paper.proofs.cache.is_offered.Tie as tie
 
 returns : tie.Need-returns
 unfolding offered

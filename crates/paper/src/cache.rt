@@ -1,0 +1,36 @@
+// Which caches there are, and which set of one a block lives in.
+ghost use mathlib.Core.Path.{_≡_};
+ghost use Prim.Native.Nat.{_%_, _<_, _≤_};
+ghost use Rattle.paper.specs.Machines as Machines;
+
+// "A set has k ways (LRU, FIFO 1 to 8; NMRU 2 to 8)"
+pub fn is_offered(policy: u8, ways: u8) -> bool
+    ensures { λ r. ⌜ r ≡ Machines.offered policy ways ⌝ }
+{
+    if policy == 2 {
+        return (ways <= 8) & (1 < ways);
+    }
+    (policy <= 2) & ((ways <= 8) & (0 < ways))
+}
+
+// "With S sets (1 to 64)"
+pub fn is_set_count(sets: u8) -> bool
+    ensures { λ r. ⌜ r ≡ Machines.setCount sets ⌝ }
+{
+    (0 < sets) & (sets <= 64)
+}
+
+pub fn is_in_range(policy: u8, ways: u8, sets: u8) -> bool
+    ensures { λ r. ⌜ r ≡ Machines.inRange policy ways sets ⌝ }
+{
+    is_offered(policy, ways) & is_set_count(sets)
+}
+
+// "block b lives in set b mod S"
+pub fn home(b: u16, sets: u8) -> u16
+    requires { ⌜ (0 < sets) × (sets ≤ 64) ⌝ }
+    ensures { λ r. ⌜ r ≡ b % sets ⌝ }
+    ensures { λ r. ⌜ r < 64 ⌝ }
+{
+    b % (sets as u16)
+}
