@@ -27,8 +27,7 @@ tookStep t = record { state = t .state; outcome = cond (t .hit) Outcomes.Hit Out
 unfoldable pub stepAnswer : ℕ → ℕ → SetState → Block → StepAnswer
 stepAnswer policy k s b =
     cond (not (offered policy k)) (refusedStep s 3)
-    (cond (not (legal policy k s)) (refusedStep s 22)
-    (cond (eqb (b .0) none) (refusedStep s 21) (tookStep (step policy k s (b .0)))))
+    (cond (not (legal policy k s)) (refusedStep s 22) (cond (eqb (b .0) none) (refusedStep s 21) (tookStep (step policy k s (b .0)))))
 
 -- "the line size is 8, 16, 32, 64 or 128"
 unfoldable pub lineSize : ℕ → Bool
