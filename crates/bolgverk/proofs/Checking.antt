@@ -16,7 +16,7 @@ use Rattle.layout.specs.declared.Layout.{Layout}
 use Rattle.layout.specs.declared.Layout.the-variants as Layouts
 use Rattle.layout.proofs.Laws.{read-rules, refused-rules, read-trailer}
 use Rattle.bolgverk.specs.Promises.{CheckPromise}
-use Rattle.bolgverk.specs.Judged.{written, Judged}
+use Rattle.judge.specs.Judged.{written, Judged}
 use Rattle.bolgverk.proofs.Kept.{check-kept}
 
 module _ (f lent : List ℕ) where

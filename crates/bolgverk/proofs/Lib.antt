@@ -1,4 +1,3 @@
 pub mod Determined
 pub mod Kept
-pub mod Judging
 pub mod Checking

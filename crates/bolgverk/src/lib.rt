@@ -1,12 +1,5 @@
 // The public face of Bolgverk: every public operation, each thin, with its whole promise. None has a `requires`.
-ghost use mathlib.Core.Path.{_≡_};
-ghost use Prim.Native.Nat.{_≤_};
-ghost use lib.ListN.{length};
-ghost use Rattle.layout.specs.Laid.{Laid};
 ghost use Rattle.bolgverk.specs.Promises.{StepPromise, BlockPromise, SetPromise, TracePromise, CheckPromise};
-ghost use Rattle.bolgverk.specs.Judged.{Judged};
-ghost use Rattle.paper.specs.Machines.{inRange};
-ghost use mathlib.Core.Bool.{true};
 use layout::Layout;
 use paper::Address;
 use paper::Block;
@@ -15,7 +8,6 @@ use paper::SetAnswer;
 use paper::SetState;
 use paper::StepAnswer;
 use paper::TraceAnswer;
-use paper::Trailer;
 use paper::Verdict;
 
 // "A single step takes a policy, k, any set state and any block (no S; the block's set isn't looked at)"
@@ -46,26 +38,6 @@ pub fn trace_run(policy: u8, ways: u8, sets: u8, blocks: &[u16], marks: &mut [u8
     trace::trace_run(policy, ways, sets, blocks, marks)
 }
 
-// Rules 6 to 19 and the 321 numbers, for a file that passes rules 1 to 5.
-fn judge(file: &[u8], t: Trailer, bounds: &mut [u64]) -> Verdict
-    requires { ⌜ Laid (now file) t ⌝ }
-    requires { ⌜ inRange (t .policy) (t .ways) (t .sets) ≡ true ⌝ }
-    requires { ⌜ 321 ≤ length (now bounds) ⌝ }
-    ensures { λ r. ⌜ Judged (now (file .entry)) t (now (bounds .entry)) r (now (bounds .exit)) ⌝ }
-{
-    let mut counts: [u32; 1024] = [0; 1024];
-    let graph = graph::graph_rules(file, t, &mut counts);
-    if let Verdict::Refused(r) = graph {
-        return Verdict::Refused(r);
-    }
-    let facts = evidence::fact_rules(file, t);
-    if let Verdict::Refused(r) = facts {
-        return Verdict::Refused(r);
-    }
-    charge::charge(file, t, &counts, bounds);
-    Verdict::Accepted
-}
-
 // "The check tests 20 first, then 1 to 10 in order, each over the whole file; then for each fact in turn 11 to 18; then 19."
 pub fn check(file: &[u8], bounds: &mut [u64]) -> Verdict
     ensures { λ r. ⌜ CheckPromise (now (file .entry)) (now (bounds .entry)) r (now (bounds .exit)) ⌝ }
@@ -75,7 +47,7 @@ pub fn check(file: &[u8], bounds: &mut [u64]) -> Verdict
     }
     let read = layout::layout_of(file);
     match read {
-        Layout::Read(t) => judge(file, t, bounds),
+        Layout::Read(t) => judge::judge(file, t, bounds),
         Layout::Refused(r) => Verdict::Refused(r),
     }
 }

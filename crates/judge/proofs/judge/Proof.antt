@@ -1,7 +1,7 @@
 use borrow.Author.Needs.{needs}
-use Rattle.bolgverk.proofs.Judging.{graph-refused, edges-ordered, loops-fit, facts-refused, case-sound, facts-placed, judged}
-use Rattle.bolgverk.proofs.judge.Statement.{statement}
-use Rattle.bolgverk.proofs.judge.Tie as tie
+use Rattle.judge.proofs.Judging.{graph-refused, edges-ordered, loops-fit, facts-refused, case-sound, facts-placed, judged}
+use Rattle.judge.proofs.judge.Statement.{statement}
+use Rattle.judge.proofs.judge.Tie as tie
 
 returns : tie.Need-returns
 returns c = graph-refused _ _ _ (c .before .before .before .before .graph-rules .ensures .0) _ _ (c .before .graph .given .1)

@@ -21,7 +21,7 @@ use Rattle.fact.specs.Edges.{Ordered}
 use Rattle.evidence.specs.Fits.{Fits}
 use Rattle.evidence.proofs.Known.{ordered, fits}
 use Rattle.charge.specs.Placed.{Placed}
-use Rattle.bolgverk.specs.Judged.{Judged}
+use Rattle.judge.specs.Judged.{Judged}
 
 module _ (f : List ℕ) (t : Trailer) where
   -- the graph's verdict is v
