@@ -138,8 +138,7 @@ fn trailer_of(file: &[u8]) -> Trailer
 fn bad_cache(t: Trailer) -> bool
     ensures { λ r. ⌜ r ≡ Files.badCache t ⌝ }
 {
-    let below = if t.policy == 2 { 1 } else { 0 };
-    !(((t.policy <= 2) & ((t.ways <= 8) & (below < t.ways))) & ((0 < t.sets) & (t.sets <= 64)))
+    !paper::is_in_range(t.policy, t.ways, t.sets)
 }
 
 fn bad_numbers(t: Trailer) -> bool
