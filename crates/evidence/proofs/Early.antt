@@ -5,9 +5,9 @@ use native.Mathlib.Numerals.{add-one}
 use native.Mathlib.Decide.{ℕ-discrete, decLt}
 use mathlib.Core.Path.{_≡_, refl, sym, _∙_, ap}
 use mathlib.Core.Logic.{_≢_}
-use mathlib.Core.Bool.{Bool, true, false, cond, not, _&&_, _||_, true≢false}
+use mathlib.Core.Bool.{Bool, true, false, cond, not, _&&_, _||_}
 use mathlib.Core.List.{List}
-use borrow.Author.Tests.{leb-false, lt-ltb, le-ltb, eq-eqb, ne-eqb}
+use borrow.Author.Tests.{lt-ltb, le-ltb, eq-eqb, ne-eqb}
 use lib.Dec.{eqb, ltb, leb}
 use Rattle.paper.specs.declared.Trailer.{Trailer}
 use Rattle.paper.specs.declared.Loop.{Loop}
@@ -19,7 +19,7 @@ use Rattle.paper.specs.Verdicts.{badOrderAt, factRule}
 use Rattle.layout.specs.Laid.{Laid}
 use Rattle.fact.specs.declared.Head.{Head}
 use Rattle.fact.specs.Stands.{scopeAt, Stands}
-use Rattle.fact.proofs.Looks.{or-left}
+use Rattle.paper.proofs.FactLaws.{head-sound}
 use Rattle.evidence.specs.declared.Judged.{Judged}
 use Rattle.evidence.specs.Fits.{Fits}
 use Rattle.evidence.specs.Turns.{Previous, lateRule, Weighs, Judges}
@@ -27,16 +27,6 @@ use Rattle.evidence.specs.Turns.{Previous, lateRule, Weighs, Judges}
 -- 12, of a fact with this loop number, block and limit
 abbrev pub wrong : Trailer → ℕ → ℕ → ℕ → Bool
 wrong t w b l = (leb (t .loops) w && not (eqb w none)) || (eqb b none || (ltb l 1 || ltb (t .ways) l))
-
-and-left : (a b : Bool) → (a && b) ≡ false → b ≡ true → a ≡ false
-and-left true b e q = absurd (true≢false (sym q ∙ e))
-and-left false b e q = refl
-
--- a fact that passes 12 names a loop or the whole graph
-pub named : (t : Trailer) (w b l : ℕ) → wrong t w b l ≡ false → w ≢ none → w < t .loops
-named t w b l e q =
-    leb-false (t .loops) w
-    (and-left (leb (t .loops) w) (not (eqb w none)) (or-left (leb (t .loops) w && not (eqb w none)) _ e) (ap not (ne-eqb w none q)))
 
 -- 11: "fewer than 6 bytes left for a fact"
 module _ (e p : ℕ) (h : p ≤ e) where
@@ -62,11 +52,16 @@ module _ (f : List ℕ) (t : Trailer) where
     unfolding badHead caseOf
     head-test = rw (← x, ← y, ← z) refl
 
+    -- a fact that passes 12 names a loop or the whole graph
+    pub named : wrong t w b l ≡ false → w ≢ none → w < t .loops
+    unfolding caseOf
+    named e q = omega (arith, head-sound (caseOf f t) (factAt f p) (sym head-test ∙ e) .scope (λ k. q (x ∙ k)))
+
     pub stands :
         Laid f t → Fits f t → wrong t w b l ≡ false → (s : Loop) → s ≡ rangeOf (t .nodes) (loopAt f t) w →
         Stands f t (record { place = p; first = s .first; last = s .last; block = b; limit = l; home = b % t .sets })
     stands laid fit e s q =
-        let k = scope-fits laid fit w (named t w b l e) in
+        let k = scope-fits laid fit w (named e) in
         let a : s .first ≡ rangeOf (t .nodes) (loopAt f t) w .first = ap (λ (s : Loop). s .first) q in
         let o : s .last ≡ rangeOf (t .nodes) (loopAt f t) w .last = ap (λ (s : Loop). s .last) q in
         record {

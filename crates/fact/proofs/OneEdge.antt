@@ -4,15 +4,14 @@ use native.Mathlib.Omega.{arith}
 use native.Mathlib.Decide.{ℕ-discrete}
 use mathlib.Core.Path.{_≡_, refl, sym, _∙_}
 use mathlib.Core.Logic.{_≢_}
-use mathlib.Core.Bool.{Bool, true, false, not, _||_}
+use mathlib.Core.Bool.{Bool, true, false, not, _||_, or-true, or-false}
 use borrow.Author.Tests.{lt-leb, le-leb, eq-eqb, ne-eqb}
 use lib.Dec.{eqb}
 use Rattle.paper.specs.Lists.{some}
 use Rattle.paper.specs.Cases.{Row, Case, Fact}
 use Rattle.paper.specs.Facts.{held, lacks, breaks}
 use Rattle.fact.specs.Rows.{missing, forgets}
-use Rattle.fact.proofs.Looks.{or-true, or-false}
-use Rattle.fact.proofs.Slots.{held-set}
+use Rattle.paper.proofs.RowLaws.{held-set}
 
 module _ (e : Case) (t : Fact) (x : ℕ) (r s : Row) (m : ℕ) (b : m ≡ s .number) where
   -- "u fetches b: row v is not 9"
@@ -53,4 +52,4 @@ module _ (e : Case) (t : Fact) (x : ℕ) (r s : Row) (m : ℕ) (b : m ≡ s .num
         -- "that holds row u's blocks"
         pub breaks-drops : (c d : Bool) → c ≡ forgets e t x s → c ≡ false → n < 8 → d ≡ some (missing r s) n → d ≡ breaks e t x r s
         breaks-drops c d u z k v =
-            v ∙ sym (parts ∙ rw (sym u ∙ z, held-set r n a k) (or-false (some (missing r s) n)))
+            v ∙ sym (parts ∙ rw (sym u ∙ z, held-set r (omega arith) ∙ sym a) (or-false (some (missing r s) n)))

@@ -28,7 +28,7 @@ range-at-requires c κs =
     let l = c .before .before .before in
     let b = l .before in
     let w = b .before in
-    (search needs, named (w .before .before .before .args .t) (w .u16-at .result) (b .u16-at2 .result) (l .u16-at3 .result) (c .if2 .left))
+    (search needs, named _ (w .before .before .before .args .t) _ _ _ _ (w .u16-at .ensures) (b .u16-at2 .ensures) (l .u16-at3 .ensures) (c .if2 .left))
 
 returns-3 : tie.Need-returns-3
 returns-3 c =

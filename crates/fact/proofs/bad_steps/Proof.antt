@@ -1,7 +1,7 @@
 use Prim.Native.Nat.{_-_}
 use native.Mathlib.Omega.{arith}
 use borrow.Author.Needs.{needs}
-use Rattle.fact.proofs.Looks.{some-found, some-end}
+use Rattle.paper.proofs.Least.{some-found, some-end}
 use Rattle.fact.proofs.OneStep.{Reached, reached-start, reached-more, reached-after}
 use Rattle.fact.proofs.bad_steps.Statement.{statement}
 use Rattle.fact.proofs.bad_steps.Tie as tie

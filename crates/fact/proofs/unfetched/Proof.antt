@@ -2,9 +2,8 @@ use Prim.Native.Nat.{_-_}
 use borrow.Author.Needs.{needs}
 use Rattle.paper.specs.Cases.{fetches}
 use Rattle.paper.specs.Files.{caseOf}
-use Rattle.paper.proofs.Least.{Passed, passed-start, passed-more}
+use Rattle.paper.proofs.Least.{Passed, passed-start, passed-more, some-found, some-end}
 use Rattle.fact.specs.Stands.{factOf}
-use Rattle.fact.proofs.Looks.{some-found, some-end}
 use Rattle.fact.proofs.Scopes.{unfetched-is}
 use Rattle.fact.proofs.unfetched.Statement.{statement}
 use Rattle.fact.proofs.unfetched.Tie as tie
