@@ -30,14 +30,14 @@ module _ (f : List ℕ) (t : Trailer) (h : Head) (a : Stands f t h) (x : ℕ) (s
   unfolding forgets
   forgets-none e = rw (eq-eqb x none e) refl
 
-  module _ (q : x ≢ none) where
-    pub forgets-other : x % t .sets ≢ h .home → false ≡ forgets (caseOf f t) (factOf f h) x s
+  module _ (q : x ≢ none) (y : ℕ) (o : y ≡ x % t .sets) where
+    pub forgets-other : y ≢ h .home → false ≡ forgets (caseOf f t) (factOf f h) x s
     unfolding forgets sameSet caseOf
-    forgets-other w = rw (ne-eqb x none q, ne-eqb _ _ (λ z. w (z ∙ sym (home-is f t h a)))) refl
+    forgets-other w = rw (ne-eqb x none q, ne-eqb _ _ (λ z. w (o ∙ z ∙ sym (home-is f t h a)))) refl
 
-    pub forgets-same : (b : Bool) → x % t .sets ≡ h .home → b ≡ holds s x → not b ≡ forgets (caseOf f t) (factOf f h) x s
+    pub forgets-same : (b : Bool) → y ≡ h .home → b ≡ holds s x → not b ≡ forgets (caseOf f t) (factOf f h) x s
     unfolding forgets sameSet caseOf
-    forgets-same b w e = rw (ne-eqb x none q, eq-eqb _ _ (w ∙ home-is f t h a), ← e) refl
+    forgets-same b w e = rw (ne-eqb x none q, eq-eqb _ _ (sym o ∙ w ∙ home-is f t h a), ← e) refl
 
 -- "strictly rising"
 abbrev Rises : Row → ℕ → Type 0

@@ -4,8 +4,8 @@ use borrow.Author.Needs.{needs}
 use Rattle.fact.proofs.Scopes.{edge-is}
 use Rattle.fact.proofs.OneRow.{number-at, rising-at}
 use Rattle.fact.proofs.OneEdge.{breaks-b, breaks-not-since, breaks-many, breaks-no-set, breaks-lost, breaks-drops}
-use Rattle.fact.proofs.breaks.Statement.{statement}
-use Rattle.fact.proofs.breaks.Tie as tie
+use Rattle.fact.proofs.steps.breaks.Statement.{statement}
+use Rattle.fact.proofs.steps.breaks.Tie as tie
 
 returns : tie.Need-returns
 returns c =

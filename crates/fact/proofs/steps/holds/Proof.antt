@@ -7,8 +7,8 @@ use Rattle.paper.specs.Files.{rowAt}
 use Rattle.paper.specs.Facts.{holds}
 use Rattle.paper.proofs.Least.{Passed, passed-start, passed-more, some-found, some-end}
 use Rattle.fact.proofs.Slots.{set-held}
-use Rattle.fact.proofs.holds.Statement.{statement}
-use Rattle.fact.proofs.holds.Tie as tie
+use Rattle.fact.proofs.steps.holds.Statement.{statement}
+use Rattle.fact.proofs.steps.holds.Tie as tie
 
 abbrev Inv-loop : tie.InvT-loop
 Inv-loop file at n x k₀ k = Passed (λ k. eqb (rowAt file at .slot k) x) n k

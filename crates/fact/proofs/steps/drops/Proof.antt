@@ -5,8 +5,8 @@ use borrow.Author.Needs.{needs}
 use Rattle.paper.specs.Files.{rowAt}
 use Rattle.fact.proofs.Slots.{set-held}
 use Rattle.fact.proofs.Sets.{Merged, merged-start, merged-at, merged-out, merged-above, merged-skip, merged-same, merged-end}
-use Rattle.fact.proofs.drops.Statement.{statement}
-use Rattle.fact.proofs.drops.Tie as tie
+use Rattle.fact.proofs.steps.drops.Statement.{statement}
+use Rattle.fact.proofs.steps.drops.Tie as tie
 
 abbrev Inv-loop : tie.InvT-loop
 Inv-loop file r n s m i₀ j₀ i j = Merged (rowAt file r) (rowAt file s) n m i j

@@ -7,8 +7,8 @@ use Rattle.paper.specs.Files.{rowAt}
 use Rattle.paper.proofs.Least.{Passed, passed-more, some-found, some-end}
 use Rattle.fact.specs.Rows.{unfree}
 use Rattle.fact.proofs.Slots.{unfree-before, unfree-at}
-use Rattle.fact.proofs.bad_rest.Statement.{statement}
-use Rattle.fact.proofs.bad_rest.Tie as tie
+use Rattle.fact.proofs.rows.bad_rest.Statement.{statement}
+use Rattle.fact.proofs.rows.bad_rest.Tie as tie
 
 abbrev Inv-loop : tie.InvT-loop
 Inv-loop file at n k₀ k = Passed (unfree n (rowAt file at)) 7 k × (n ≤ k)
