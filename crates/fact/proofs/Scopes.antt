@@ -8,7 +8,7 @@ use Rattle.paper.specs.declared.Trailer.{Trailer}
 use Rattle.paper.specs.Cases.{Case, scopeOf, size}
 use Rattle.paper.specs.Files.{rowAt, factAt, caseOf}
 use Rattle.paper.specs.Lists.{some}
-use Rattle.paper.specs.Facts.{badRow, badRowAt, breaks, badStepAt, badManyAt, evidenceRule}
+use Rattle.paper.specs.Facts.{badRow, badRowAt, badStepAt, badManyAt, evidenceRule}
 use Rattle.fact.specs.declared.Head.{Head}
 use Rattle.fact.specs.Stands.{Stands, factOf, nodesOf}
 use Rattle.fact.specs.Sought.{sought}
@@ -41,10 +41,3 @@ module _ (f : List ℕ) (t : Trailer) (h : Head) (s : Stands f t h) where
 pub row-is : (e : Case) (f : List ℕ) (p j at : ℕ) → at ≡ p + 6 + 16 * j → badRow e (factAt f p) (rowAt f at) ≡ badRowAt e (factAt f p) j
 unfolding badRowAt
 row-is e f p j at q = rw q refl
-
--- the two rows of an edge, where they stand
-pub edge-is :
-    (e : Case) (f : List ℕ) (p x i j r s : ℕ) →
-    r ≡ p + 6 + 16 * i → s ≡ p + 6 + 16 * j →
-    breaks e (factAt f p) x (rowAt f r) (rowAt f s) ≡ breaks e (factAt f p) x (factAt f p .row i) (factAt f p .row j)
-edge-is e f p x i j r s a b = rw (a, b) refl

@@ -1,5 +1,5 @@
 -- What `layoutOf` says: the paper's rules 1 to 5 are it, and a file that is read is laid out as its trailer says. Assumes nothing.
-use Prim.Native.Nat.{ℕ, _<_}
+use Prim.Native.Nat.{ℕ, _<_, _≤_}
 use mathlib.Core.Path.{_≡_, refl, sym, _∙_, ap}
 use mathlib.Core.Bool.{Bool, true, false}
 use mathlib.Core.Logic.{inr}
@@ -7,11 +7,12 @@ use mathlib.Core.List.{List}
 use native.Mathlib.Omega.{arith}
 use lib.Dec.{ltb}
 use lib.ListN.{length}
-use borrow.Author.Tests.{ltb-false, not-false}
+use borrow.Author.Tests.{lt-ltb, le-ltb, ltb-false, not-false}
 use Rattle.paper.specs.declared.Refusal.{Refusal}
 use Rattle.paper.specs.declared.Trailer.{Trailer}
 use Rattle.paper.specs.declared.Verdict.{Verdict}
 use Rattle.paper.specs.declared.Verdict.the-variants as Verdicts
+use Rattle.paper.specs.Answers.{refuse}
 use Rattle.paper.specs.Machines.{inRange}
 use Rattle.paper.specs.Files.{endAt, factsAt, trailerOf, badLetters, badCache, badNumbers, badOffsets}
 use Rattle.paper.specs.Verdicts.{rule, graphRules, rulesTo10}
@@ -22,7 +23,19 @@ use Rattle.paper.proofs.VerdictLaws.{KeptLayout, in-numbers}
 use Rattle.layout.specs.declared.Layout.{Layout}
 use Rattle.layout.specs.declared.Layout.the-variants.{Read, Refused}
 use Rattle.layout.specs.Laid.{Laid}
-use Rattle.layout.specs.Layouts.{unless, sectionsOf, layoutOf}
+use Rattle.layout.specs.Layouts.{unless, layoutOf}
+
+-- `layoutOf` by the outcomes of its tests
+module _ (f : List ℕ) where
+  pub layout-short : length f < 32 → Refused (refuse 1 0) ≡ layoutOf f
+  unfolding layoutOf
+  layout-short l = rw (lt-ltb (length f) 32 l) refl
+
+  pub layout-is :
+      32 ≤ length f → (a b c d : Bool) → a ≡ badLetters f → b ≡ badCache (trailerOf f) → c ≡ badNumbers (trailerOf f) → d ≡ badOffsets f (trailerOf f) →
+      unless 2 a (unless 3 b (unless 4 c (unless 5 d (Read (trailerOf f))))) ≡ layoutOf f
+  unfolding layoutOf
+  layout-is l a b c d w x y z = rw (le-ltb (length f) 32 l, ← w, ← x, ← y, ← z) refl
 
 -- The verdict where the trailer is handed on.
 abbrev pub onward : (Trailer → Verdict) → Layout → Verdict
@@ -36,7 +49,7 @@ onward-unless k n false l v e = e
 module _ (f : List ℕ) where
   -- rules 1 to 10 are `layoutOf`, then rules 6 to 10
   pub rules-to-10 : (rest : Verdict) → rulesTo10 f rest ≡ onward (λ t. graphRules f t rest) (layoutOf f)
-  unfolding rulesTo10 layoutOf sectionsOf
+  unfolding rulesTo10 layoutOf
   rules-to-10 rest =
       let k : Trailer → Verdict = λ t. graphRules f t rest in
       onward-unless k 1 (ltb (length f) 32) _ _
@@ -56,7 +69,7 @@ unless-read n false l e = (refl, e)
 
 module _ (f : List ℕ) (t : Trailer) (e : layoutOf f ≡ Read t) where
   all-kept : (t ≡ trailerOf f) × KeptLayout f (trailerOf f)
-  unfolding layoutOf sectionsOf badCache
+  unfolding layoutOf badCache
   all-kept =
       let p1 = unless-read 1 (ltb (length f) 32) _ e in
       let p2 = unless-read 2 (badLetters f) _ (p1 .1) in

@@ -4,7 +4,6 @@ use mathlib.Core.Bool.{Bool, cond}
 use mathlib.Core.List.{List}
 use lib.Dec.{ltb}
 use lib.ListN.{length}
-use Rattle.paper.specs.declared.Trailer.{Trailer}
 use Rattle.paper.specs.Answers.{refuse}
 use Rattle.paper.specs.Files.{trailerOf, badLetters, badCache, badNumbers, badOffsets}
 use Rattle.layout.specs.declared.Layout.{Layout}
@@ -14,8 +13,8 @@ use Rattle.layout.specs.declared.Layout.the-variants.{Read, Refused}
 abbrev pub unless : ℕ → Bool → Layout → Layout
 unless number bad rest = cond bad (Refused (refuse number 0)) rest
 
-unfoldable pub sectionsOf : List ℕ → Trailer → Layout
-sectionsOf f t = unless 3 (badCache t) (unless 4 (badNumbers t) (unless 5 (badOffsets f t) (Read t)))
-
 unfoldable pub layoutOf : List ℕ → Layout
-layoutOf f = unless 1 (ltb (length f) 32) (unless 2 (badLetters f) (sectionsOf f (trailerOf f)))
+layoutOf f =
+    unless 1 (ltb (length f) 32)
+    (unless 2 (badLetters f)
+    (unless 3 (badCache (trailerOf f)) (unless 4 (badNumbers (trailerOf f)) (unless 5 (badOffsets f (trailerOf f)) (Read (trailerOf f))))))

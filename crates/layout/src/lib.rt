@@ -162,11 +162,16 @@ fn bad_offsets(file: &[u8], t: Trailer) -> bool
                 | (!(u32_at(file, end + 12) as usize == facts) | (end < facts))))
 }
 
-// Rules 3 to 5, of what the trailer says.
-fn sections_of(file: &[u8], t: Trailer) -> Layout
-    requires { ⌜ 32 ≤ length (now file) ⌝ }
-    ensures { λ r. ⌜ r ≡ Layouts.sectionsOf (now (file .entry)) t ⌝ }
+pub fn layout_of(file: &[u8]) -> Layout
+    ensures { λ r. ⌜ r ≡ Layouts.layoutOf (now (file .entry)) ⌝ }
 {
+    if file.len() < 32 {
+        return Layout::Refused(paper::refuse(1, 0));
+    }
+    if bad_letters(file) {
+        return Layout::Refused(paper::refuse(2, 0));
+    }
+    let t = trailer_of(file);
     if bad_cache(t) {
         return Layout::Refused(paper::refuse(3, 0));
     }
@@ -177,16 +182,4 @@ fn sections_of(file: &[u8], t: Trailer) -> Layout
         return Layout::Refused(paper::refuse(5, 0));
     }
     Layout::Read(t)
-}
-
-pub fn layout_of(file: &[u8]) -> Layout
-    ensures { λ r. ⌜ r ≡ Layouts.layoutOf (now (file .entry)) ⌝ }
-{
-    if file.len() < 32 {
-        return Layout::Refused(paper::refuse(1, 0));
-    }
-    if bad_letters(file) {
-        return Layout::Refused(paper::refuse(2, 0));
-    }
-    sections_of(file, trailer_of(file))
 }
