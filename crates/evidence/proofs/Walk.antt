@@ -12,8 +12,7 @@ use Rattle.paper.specs.Answers.{refuse}
 use Rattle.paper.specs.Lists.{least, some}
 use Rattle.paper.specs.Files.{endAt, factsAt, factPlace}
 use Rattle.paper.specs.Verdicts.{factRule, badFact, factRules}
-use Rattle.paper.proofs.Least.{Passed, passed-more, least-found, some-none}
-use Rattle.fact.proofs.Looks.{some-found}
+use Rattle.paper.proofs.Least.{Passed, passed-more, least-found, some-found, some-none}
 use Rattle.layout.specs.Laid.{Laid}
 use Rattle.evidence.specs.Turns.{Turn}
 

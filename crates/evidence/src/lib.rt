@@ -76,7 +76,7 @@ fn judge(file: &[u8], t: Trailer, i: u16, p: usize, block: u16, last: u16) -> Ju
     if (0 < i) & ((b < block) | ((b == block) & (scope.first <= last))) {
         return told(13, 0, 0, 0);
     }
-    let home = b % (t.sets as u16);
+    let home = paper::home(b, t.sets);
     weigh(
         file,
         t,

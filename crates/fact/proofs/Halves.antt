@@ -6,7 +6,7 @@ use mathlib.Core.List.{List}
 use Rattle.paper.specs.declared.Trailer.{Trailer}
 use Rattle.paper.specs.Files.{fromAt}
 use Rattle.fact.specs.Edges.{Ordered, Splits}
-use Rattle.fact.proofs.Looks.{climbs}
+use Rattle.fact.proofs.Climbs.{climbs}
 
 module _ (f : List ℕ) (t : Trailer) (v : ℕ) where
   pub halves-start : Splits f t v 0 (t .edges)

@@ -1,4 +1,4 @@
-pub mod Looks
+pub mod Climbs
 pub mod Scopes
 pub mod Slots
 pub mod Sets

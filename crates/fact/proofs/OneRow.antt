@@ -1,10 +1,9 @@
 -- Rule 16 for one row, branch by branch. Assumes nothing.
-use Prim.Native.Nat.{ℕ, suc, _+_, _*_, _≤_, _<_}
+use Prim.Native.Nat.{ℕ, _+_, _*_, _≤_, _<_}
 use native.Mathlib.Omega.{arith}
 use mathlib.Core.Path.{_≡_, refl, sym, _∙_}
-use mathlib.Core.Bool.{Bool, true, false, _&&_}
-use borrow.Author.Tests.{ltb-false, lt-ltb, le-ltb, le-leb, lt-leb}
-use lib.Dec.{ltb, leb}
+use mathlib.Core.Bool.{Bool, true, false}
+use borrow.Author.Tests.{lt-ltb, le-ltb, le-leb, lt-leb}
 use lib.ListN.{length}
 use mathlib.Core.List.{List}
 use Rattle.paper.specs.declared.Trailer.{Trailer}
@@ -12,13 +11,14 @@ use Rattle.paper.specs.Lists.{some}
 use Rattle.paper.specs.Cases.{Row, Case, Fact}
 use Rattle.paper.specs.Files.{u16At, rowAt, caseOf}
 use Rattle.paper.specs.Facts.{badSlot, badRow}
-use Rattle.paper.proofs.Least.{None, none-some, is-some, some-is}
-use Rattle.fact.specs.Rows.{unfree, RisingAt}
+use Rattle.paper.proofs.Least.{none-some, is-some, some-is}
+use Rattle.paper.proofs.Meaning.{SoundRow}
+use Rattle.paper.proofs.RowLaws.{held-set, held-other, row-law}
+use Rattle.fact.specs.Rows.{unfree, SetAt, RisingAt}
 use Rattle.fact.specs.declared.Head.{Head}
 use Rattle.fact.specs.Stands.{factOf, nodesOf, SoundRows}
 use Rattle.fact.proofs.Scopes.{row-is}
-use Rattle.fact.proofs.Slots.{held-set, held-none, rest-test, rises-at}
-use Rattle.fact.proofs.Looks.{or-left, or-right}
+use Rattle.fact.proofs.Slots.{set-held, rest-test}
 
 module _ (e : Case) (t : Fact) (r : Row) (n : ℕ) (q : n ≡ r .number) where
   -- "A row whose number is above 9 is not sound."
@@ -32,7 +32,7 @@ module _ (e : Case) (t : Fact) (r : Row) (n : ℕ) (q : n ≡ r .number) where
 
   -- "For rows 8 and 9 all slots are free."
   pub row-other : (b : Bool) → 8 ≤ n → n ≤ 9 → b ≡ some (unfree 0 r) 7 → b ≡ badRow e t r
-  row-other b l h w = w ∙ rest-test 0 r e t (held-none r (omega arith)) (λ k x. absurd (omega arith)) ∙ sym (others l h)
+  row-other b l h w = w ∙ rest-test 0 r e t (held-other r (omega arith)) (λ k x. absurd (omega arith)) ∙ sym (others l h)
 
   module _ (l : n < 8) where
     -- "at most l-1 blocks"
@@ -59,35 +59,17 @@ module _ (e : Case) (t : Fact) (r : Row) (n : ℕ) (q : n ≡ r .number) where
 
         pub row-set : (c : Bool) → b ≡ false → c ≡ some (unfree n r) 7 → c ≡ badRow e t r
         row-set c z a =
-            a ∙ rest-test n r e t (held-set r n q l) (none-some (badSlot e t r) n (sym w ∙ z)) ∙ sym slots
-
--- what a sound row is known to be
-module _ (e : Case) (t : Fact) (r : Row) (w : badRow e t r ≡ false) where
-  pub sound-number : r .number ≤ 9
-  unfolding badRow
-  sound-number = ltb-false 9 (r .number) (or-left (ltb 9 (r .number)) _ w)
-
-  sound-slots : None (badSlot e t r) 7
-  unfolding badRow
-  sound-slots =
-      none-some (badSlot e t r) 7
-      (or-right (ltb (r .number) 8 && leb (t .limit) (r .number)) _ (or-right (ltb 9 (r .number)) _ w))
-
-  pub sound-rises : (n : ℕ) → n ≡ r .number → n < 8 → (k : ℕ) → suc k < n → r .slot k < r .slot (suc k)
-  sound-rises n q l k h =
-      omega (arith, ltb-false (r .slot (suc k)) (r .slot k + 1) (rises-at e t r k (rw (held-set r n q l) h) (sound-slots (suc k) (omega arith))))
+            a ∙ rest-test n r e t (held-set r (omega arith) ∙ sym q) (none-some (badSlot e t r) n (sym w ∙ z)) ∙ sym slots
 
 -- the row of the scope's node j, once rule 16 is passed
 module _ (f : List ℕ) (t : Trailer) (h : Head) (w : SoundRows f t h) (j at n : ℕ) (l : j < nodesOf h) (q : at ≡ h .place + 6 + 16 * j) (a : n ≡ u16At f at) where
-  sound-at : badRow (caseOf f t) (factOf f h) (rowAt f at) ≡ false
-  sound-at = row-is (caseOf f t) f (h .place) j at q ∙ w .sound j l
+  sound-at : SoundRow (caseOf f t) (factOf f h) (rowAt f at)
+  sound-at = row-law (caseOf f t) (factOf f h) (rowAt f at) .0 (row-is (caseOf f t) f (h .place) j at q ∙ w .sound j l)
 
   pub number-at : n ≤ 9
-  number-at = omega (arith, sound-number (caseOf f t) (factOf f h) (rowAt f at) sound-at)
+  number-at = omega (arith, sound-at .number)
 
   pub rising-at : n < 8 → at + 16 ≤ length f → RisingAt f at n
   rising-at z o =
-      record {
-        set = record { room = o; few = z; number = a };
-        rises = sound-rises (caseOf f t) (factOf f h) (rowAt f at) sound-at n a z;
-      }
+      let s : SetAt f at n = record { room = o; few = z; number = a } in
+      record { set = s; rises = λ k y. sound-at .rising k (omega (arith, set-held s)) }

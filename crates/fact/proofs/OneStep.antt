@@ -2,81 +2,69 @@
 use Prim.Native.Nat.{ℕ, _+_, _-_, _≤_, _<_}
 use native.Mathlib.Omega.{arith}
 use native.Mathlib.Decide.{decLe}
-use mathlib.Core.Path.{_≡_, refl, sym, _∙_, ap}
-use mathlib.Core.Bool.{Bool, true, false, not, _&&_, _||_}
+use mathlib.Core.Path.{_≡_, refl, sym, _∙_}
+use mathlib.Core.Logic.{_↔_, ⊎-elim}
+use mathlib.Core.Bool.{Bool, true, false, _||_}
 use mathlib.Core.List.{List}
-use borrow.Author.Tests.{ltb-false, lt-ltb, le-ltb, le-leb, lt-leb}
-use lib.Dec.{ltb, leb}
+use borrow.Author.Tests.{ltb-false}
+use lib.Dec.{ltb}
 use Rattle.paper.specs.declared.Trailer.{Trailer}
-use Rattle.paper.specs.Cases.{inside, scopeOf}
+use Rattle.paper.specs.Cases.{scopeOf}
 use Rattle.paper.specs.Files.{nodeAt, fromAt, toAt, caseOf}
 use Rattle.paper.specs.Lists.{some}
 use Rattle.paper.specs.Facts.{badStepAt}
 use Rattle.paper.proofs.Least.{Passed, passed-more, some-none}
+use Rattle.paper.proofs.Says.{neither, says-lt, says-or, says-false, says-true, says-is}
+use Rattle.paper.proofs.Meaning.{In}
+use Rattle.paper.proofs.GraphLaws.{inside-says}
+use Rattle.paper.proofs.TestLaws.{step-says}
 use Rattle.fact.specs.declared.Head.{Head}
 use Rattle.fact.specs.Stands.{Stands, factOf}
 use Rattle.fact.specs.Edges.{Ordered, Splits, From}
 use Rattle.fact.specs.Rows.{breaksAt}
-use Rattle.fact.proofs.Looks.{climbs, or-left, or-right, or-true}
+use Rattle.fact.proofs.Climbs.{climbs}
 
 -- node v is not one of a to z
 abbrev pub out : ℕ → ℕ → ℕ → Bool
 out a z v = ltb v a || ltb z v
 
 pub in-range : (a z v : ℕ) → out a z v ≡ false → (a ≤ v) × (v ≤ z)
-in-range a z v e = (ltb-false v a (or-left (ltb v a) _ e), ltb-false z v (or-right (ltb v a) _ e))
-
-above : (a b : ℕ) → ltb b a ≡ not (leb a b)
-above a b =
-    elim (decLe a b) [
-      | yes h ↦ le-ltb b a h ∙ sym (ap not (le-leb a b h))
-      | no h ↦ lt-ltb b a (omega arith) ∙ sym (ap not (lt-leb a b (omega arith)))
-    ]
-
-not-both : (a b : Bool) → (not a || not b) ≡ not (a && b)
-not-both true b = refl
-not-both false b = refl
-
-not-twice : (b c : Bool) → c ≡ not b → b ≡ not c
-not-twice true c e = ap not (sym e)
-not-twice false c e = ap not (sym e)
+in-range a z v e = let n = neither (ltb v a) _ e in (ltb-false v a (n .0), ltb-false z v (n .1))
 
 module _ (f : List ℕ) (t : Trailer) (h : Head) (s : Stands f t h) where
-  inside-is : (v : ℕ) (b : Bool) → out (h .first) (h .last) v ≡ b → inside (scopeOf (caseOf f t) (factOf f h)) v ≡ not b
-  unfolding inside caseOf
-  inside-is v b e =
-      not-twice _ _ (sym e ∙ rw (above (h .first) v, above v (h .last), not-both) (rw (s .first, s .last) refl))
+  in-scope : (v : ℕ) → In (scopeOf (caseOf f t) (factOf f h)) v ↔ ((h .first ≤ v) × (v ≤ h .last))
+  unfolding caseOf
+  in-scope v = (λ p. omega (arith, s .first, s .last), λ p. omega (arith, s .first, s .last))
 
   module _ (i : ℕ) where
-    step-is :
-        (u v : ℕ) → u ≡ fromAt f t i → v ≡ toAt f t i →
-        badStepAt (caseOf f t) (factOf f h) i
-        ≡ ((inside (scopeOf (caseOf f t) (factOf f h)) u && inside (scopeOf (caseOf f t) (factOf f h)) v)
-        && breaksAt f t h (nodeAt f u) (u - h .first) (v - h .first))
-    unfolding badStepAt caseOf
-    step-is u v a b = rw (← a, ← b, s .first) refl
-
     -- an edge that comes from a node before the scope or after it
-    step-out : out (h .first) (h .last) (fromAt f t i) ≡ true → badStepAt (caseOf f t) (factOf f h) i ≡ false
-    step-out e = step-is _ _ refl refl ∙ rw (inside-is (fromAt f t i) true e) refl
+    step-out : ¬ ((h .first ≤ fromAt f t i) × (fromAt f t i ≤ h .last)) → badStepAt (caseOf f t) (factOf f h) i ≡ false
+    unfolding caseOf
+    step-out n = says-false (step-says (caseOf f t) (factOf f h) i) .1 (λ p. n (in-scope _ .0 (p .0 .0)))
 
     pub step-before : fromAt f t i < h .first → badStepAt (caseOf f t) (factOf f h) i ≡ false
-    step-before l = step-out (rw (lt-ltb (fromAt f t i) (h .first) l) refl)
+    step-before l = step-out (λ p. omega arith)
 
     pub step-after : h .last < fromAt f t i → badStepAt (caseOf f t) (factOf f h) i ≡ false
-    step-after l = step-out (rw (lt-ltb (h .last) (fromAt f t i) l) (or-true (ltb (fromAt f t i) (h .first))))
+    step-after l = step-out (λ p. omega arith)
 
     module _ (u v : ℕ) (w : From f t h i u) (b : v ≡ toAt f t i) where
-      comes : inside (scopeOf (caseOf f t) (factOf f h)) u ≡ true
-      comes = inside-is u false (rw (le-ltb u (h .first) (w .low), le-ltb (h .last) u (w .high)) refl)
-
       pub step-leaves : out (h .first) (h .last) v ≡ true → false ≡ badStepAt (caseOf f t) (factOf f h) i
-      step-leaves e = sym (step-is u v (w .from-is) b ∙ rw (comes, inside-is v true e) refl)
+      unfolding caseOf
+      step-leaves e =
+          let o = says-true (says-or (says-lt v (h .first)) (says-lt (h .last) v)) e in
+          sym
+          (says-false (step-says (caseOf f t) (factOf f h) i) .1
+          (λ p. let q = in-scope (toAt f t i) .0 (p .0 .1) in ⊎-elim (λ l. omega arith) (λ l. omega arith) o))
 
       pub step-in :
           (x : ℕ) (c : Bool) → out (h .first) (h .last) v ≡ false →
           x ≡ nodeAt f u → c ≡ breaksAt f t h x (u - h .first) (v - h .first) → c ≡ badStepAt (caseOf f t) (factOf f h) i
-      step-in x c e q z = z ∙ rw q (sym (step-is u v (w .from-is) b ∙ rw (comes, inside-is v false e) refl))
+      unfolding badStepAt caseOf
+      step-in x c e q z =
+          let a = says-is (inside-says (scopeOf (caseOf f t) (factOf f h)) u) (in-scope u .1 (w .low, w .high)) in
+          let o = says-is (inside-says (scopeOf (caseOf f t) (factOf f h)) v) (in-scope v .1 (in-range _ _ v e)) in
+          z ∙ rw (← w .from-is, ← b, a, o, q, s .first) refl
 
 -- A loop over the edges from nodes of the scope is at edge i.
 pub record Reached (f : List ℕ) (t : Trailer) (h : Head) (i : ℕ) : Type 0 where

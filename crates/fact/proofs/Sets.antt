@@ -1,55 +1,28 @@
--- Sets of blocks: a block looked for in one, and one set looked for in another, where both rise. Assumes nothing.
+-- Sets of blocks: node u's block looked for in one, and one set looked for in another, where both rise. Assumes nothing.
 use Prim.Native.Nat.{ℕ, suc, _+_, _%_, _≤_, _<_}
 use native.Mathlib.Omega.{arith}
 use native.Mathlib.Numerals.{add-one}
 use native.Mathlib.Decide.{decLe}
 use mathlib.Core.Path.{_≡_, refl, sym, _∙_, ap, subst}
-use mathlib.Core.Bool.{Bool, true, false, not, true≢false}
-use mathlib.Core.Logic.{_≢_, ⊎-elim}
+use mathlib.Core.Bool.{Bool, true, false, not}
+use mathlib.Core.Logic.{_≢_}
 use mathlib.Core.List.{List}
 use borrow.Author.Count.{below-more}
 use borrow.Author.Tests.{eq-eqb, ne-eqb}
-use lib.Dec.{eqb}
 use Rattle.paper.specs.Lists.{some}
 use Rattle.paper.specs.declared.Trailer.{Trailer}
 use Rattle.paper.specs.Machines.{none}
 use Rattle.paper.specs.Cases.{Row, sameSet}
 use Rattle.paper.specs.Files.{caseOf}
 use Rattle.paper.specs.Facts.{held, holds}
-use Rattle.paper.proofs.Least.{Passed, passed-start, look, some-is}
+use Rattle.paper.proofs.Least.{Passed, passed-start, passed-more, some-found, some-end}
+use Rattle.paper.proofs.Says.{says-false, says-is}
+use Rattle.paper.proofs.RowLaws.{holds-says}
 use Rattle.fact.specs.declared.Head.{Head}
 use Rattle.fact.specs.Stands.{Stands, factOf}
 use Rattle.fact.specs.Rows.{missing, forgets}
 use Rattle.fact.proofs.Scopes.{home-is}
-use Rattle.fact.proofs.Looks.{climbs, some-found, some-end, passed-at}
-
--- slot k is the block x
-unfoldable pub slotIs : Row → ℕ → ℕ → Bool
-slotIs r x k = eqb (r .slot k) x
-
-pub slot-is : (r : Row) (x k y : ℕ) (b : Bool) → y ≡ r .slot k → eqb y x ≡ b → slotIs r x k ≡ b
-unfolding slotIs
-slot-is r x k y b e q = rw (← e) q
-
-module _ (s : Row) (m x : ℕ) (e : held s ≡ m) where
-  pub holds-some : holds s x ≡ some (slotIs s x) m
-  unfolding holds slotIs
-  holds-some = rw e refl
-
-  pub holds-at : (k : ℕ) → k < m → s .slot k ≡ x → holds s x ≡ true
-  holds-at k h q =
-      holds-some
-      ∙ ⊎-elim
-      (λ none. absurd (true≢false (sym (slot-is s x k (s .slot k) true refl (eq-eqb _ _ q)) ∙ none k h)))
-      (λ w. some-is (slotIs s x) m w)
-      (look (slotIs s x) m)
-
-  module _ (k : ℕ) (w : Passed (slotIs s x) m k) where
-    pub holds-found : k < m → slotIs s x k ≡ true → true ≡ holds s x
-    holds-found h q = some-found _ _ _ w _ h (sym q) refl ∙ sym holds-some
-
-    pub holds-end : m ≤ k → false ≡ holds s x
-    holds-end h = some-end _ _ _ w h ∙ sym holds-some
+use Rattle.fact.proofs.Climbs.{climbs}
 
 -- the block x of node u, where u fetches one of b's set
 module _ (f : List ℕ) (t : Trailer) (h : Head) (a : Stands f t h) (x : ℕ) (s : Row) where
@@ -57,14 +30,14 @@ module _ (f : List ℕ) (t : Trailer) (h : Head) (a : Stands f t h) (x : ℕ) (s
   unfolding forgets
   forgets-none e = rw (eq-eqb x none e) refl
 
-  module _ (q : x ≢ none) where
-    pub forgets-other : x % t .sets ≢ h .home → false ≡ forgets (caseOf f t) (factOf f h) x s
+  module _ (q : x ≢ none) (y : ℕ) (o : y ≡ x % t .sets) where
+    pub forgets-other : y ≢ h .home → false ≡ forgets (caseOf f t) (factOf f h) x s
     unfolding forgets sameSet caseOf
-    forgets-other w = rw (ne-eqb x none q, ne-eqb _ _ (λ z. w (z ∙ sym (home-is f t h a)))) refl
+    forgets-other w = rw (ne-eqb x none q, ne-eqb _ _ (λ z. w (o ∙ z ∙ sym (home-is f t h a)))) refl
 
-    pub forgets-same : (b : Bool) → x % t .sets ≡ h .home → b ≡ holds s x → not b ≡ forgets (caseOf f t) (factOf f h) x s
+    pub forgets-same : (b : Bool) → y ≡ h .home → b ≡ holds s x → not b ≡ forgets (caseOf f t) (factOf f h) x s
     unfolding forgets sameSet caseOf
-    forgets-same b w e = rw (ne-eqb x none q, eq-eqb _ _ (w ∙ home-is f t h a), ← e) refl
+    forgets-same b w e = rw (ne-eqb x none q, eq-eqb _ _ (sym o ∙ w ∙ home-is f t h a), ← e) refl
 
 -- "strictly rising"
 abbrev Rises : Row → ℕ → Type 0
@@ -94,15 +67,10 @@ module _ (r s : Row) (n m : ℕ) where
     lacked : ((k : ℕ) → j ≤ k → k < m → r .slot i < s .slot k) → true ≡ some (missing r s) n
     unfolding missing
     lacked above =
-        some-found (missing r s) n i (w .passed) true l
-        (ap not (holds-end s m (r .slot i) e m (record { within = omega arith; none = λ k q. apart k q }) (omega arith)))
-        refl
+        some-found (missing r s) n i (w .passed) true l (ap not (sym (says-false (holds-says s (r .slot i)) .1 (λ o. apart (o .0) (o .1) (o .2))))) refl
       where
-        apart : (k : ℕ) → k < m → slotIs s (r .slot i) k ≡ false
-        apart k q =
-            slot-is s (r .slot i) k (s .slot k) false refl
-            (ne-eqb (s .slot k) (r .slot i)
-            (elim (decLe j k) [ yes z ↦ (λ o. absurd (omega (arith, above k z q))) | no z ↦ (λ o. absurd (omega (arith, w .below k (omega arith) l))) ]))
+        apart : (k : ℕ) → k < held s → s .slot k ≢ r .slot i
+        apart k q o = elim (decLe j k) [ yes z ↦ omega (arith, above k z (omega arith)) | no z ↦ omega (arith, w .below k (omega arith) l) ]
 
     pub merged-out : m ≤ j → true ≡ some (missing r s) n
     merged-out h = lacked (λ k q z. absurd (omega arith))
@@ -121,14 +89,14 @@ module _ (r s : Row) (n m : ℕ) where
 
       there : x ≡ y → missing r s i ≡ false
       unfolding missing
-      there q = ap not (holds-at s m (r .slot i) e j h (sym b ∙ sym q ∙ a))
+      there q = ap not (says-is (holds-says s (r .slot i)) (j, omega arith, sym b ∙ sym q ∙ a))
 
       pub merged-same : Rises r n → x ≡ y → Merged r s n m (i + 1) (j + 1)
       merged-same u q =
           let low : (k : ℕ) → k < j + 1 → s .slot k ≤ r .slot i =
           below-more (λ k. s .slot k ≤ r .slot i) j (λ k z. omega (arith, w .below k z l)) (omega arith) in
           record {
-            passed = passed-at _ _ _ (w .passed) l (there q);
+            passed = passed-more _ _ _ _ (w .passed) l (sym (there q)) refl;
             within = omega arith;
             below = λ k z o. let v : r .slot i < r .slot (i + 1) = rw (add-one i) (u i (omega arith)) in omega (arith, low k z);
           }

@@ -11,14 +11,14 @@ use lib.Dec.{eqb, ltb, leb}
 use Rattle.paper.specs.declared.Trailer.{Trailer}
 use Rattle.paper.specs.Machines.{none}
 use Rattle.paper.specs.Cases.{Row, Case, Fact, sameSet}
-use Rattle.paper.specs.Files.{caseOf}
+use Rattle.paper.specs.Files.{rowAt, caseOf}
 use Rattle.paper.specs.Facts.{held, badSlot}
 use Rattle.paper.specs.Lists.{some}
-use Rattle.paper.proofs.Least.{None}
+use Rattle.paper.proofs.Least.{None, some-same}
+use Rattle.paper.proofs.RowLaws.{held-set}
 use Rattle.fact.specs.declared.Head.{Head}
 use Rattle.fact.specs.Stands.{Stands, factOf}
-use Rattle.fact.specs.Rows.{unfree}
-use Rattle.fact.proofs.Looks.{some-same, or-right}
+use Rattle.fact.specs.Rows.{SetAt, unfree}
 
 -- the least that slot k may be, by the slot before it
 unfoldable pub lowest : Row → ℕ → ℕ
@@ -47,38 +47,24 @@ below-lowest r (suc k) x =
     let e : suc k - 1 ≡ k = omega arith in
     rw (lt-ltb 0 (suc k) (omega arith), e) (below-next x (r .slot k))
 
-module _ (r : Row) where
-  pub held-set : (n : ℕ) → n ≡ r .number → n < 8 → held r ≡ n
-  unfolding held
-  held-set n e s = rw (← e, lt-ltb n 8 s) refl
-
-  pub held-none : 8 ≤ r .number → held r ≡ 0
-  unfolding held
-  held-none s = rw (le-ltb (r .number) 8 s) refl
+pub set-held : {f : List ℕ} {at n : ℕ} → SetAt f at n → held (rowAt f at) ≡ n
+set-held s = held-set _ (omega (arith, s .number, s .few)) ∙ sym (s .number)
 
 module _ (f : List ℕ) (t : Trailer) (h : Head) (r : Row) (k x : ℕ) (q : x ≡ r .slot k) where
   -- a block of a set
-  pub block-test : (n low : ℕ) → Stands f t h → held r ≡ n → k < n → low ≡ lowest r k →
-      (eqb x none || (eqb x (h .block) || (not (eqb (x % t .sets) (h .home)) || ltb x low))) ≡ badSlot (caseOf f t) (factOf f h) r k
+  pub block-test : (n low y : ℕ) → Stands f t h → held r ≡ n → k < n → low ≡ lowest r k → y ≡ x % t .sets →
+      (eqb x none || (eqb x (h .block) || (not (eqb y (h .home)) || ltb x low))) ≡ badSlot (caseOf f t) (factOf f h) r k
   unfolding badSlot sameSet caseOf
-  block-test n low s e l w = rw (e, lt-ltb k n l, w, below-lowest r k x, s .home, s .block, q) refl
-
--- a block of a set is above the one before it
-pub rises-at : (e : Case) (t : Fact) (r : Row) (k : ℕ) → suc k < held r → badSlot e t r (suc k) ≡ false → ltb (r .slot (suc k)) (r .slot k + 1) ≡ false
-unfolding badSlot lowest
-rises-at e t r k h w =
-    below-lowest r (suc k) (r .slot (suc k))
-    ∙ or-right (not (sameSet e (r .slot (suc k)) (t .block))) _
-    (or-right (eqb (r .slot (suc k)) (t .block)) _ (or-right (eqb (r .slot (suc k)) none) _ (rw (lt-ltb (suc k) (held r) h) at w)))
+  block-test n low y s e l w z = rw (e, lt-ltb k n l, w, below-lowest r k x, z, s .home, s .block, q) refl
 
 module _ (n : ℕ) (r : Row) where
   pub unfree-before : (k : ℕ) → k < n → unfree n r k ≡ false
   unfolding unfree
   unfree-before k h = rw (lt-leb n k h) refl
 
-  pub unfree-at : (k x : ℕ) (b : Bool) → n ≤ k → x ≡ r .slot k → not (eqb x none) ≡ b → unfree n r k ≡ b
+  pub unfree-at : (k x : ℕ) (b : Bool) → n ≤ k → x ≡ r .slot k → not (eqb x none) ≡ b → b ≡ unfree n r k
   unfolding unfree
-  unfree-at k x b h q e = rw (le-leb n k h, ← q) e
+  unfree-at k x b h q e = rw (le-leb n k h, ← q) (sym e)
 
   module _ (e : Case) (t : Fact) (w : held r ≡ n) (p : None (badSlot e t r) n) where
     rest-at : (k : ℕ) → unfree n r k ≡ badSlot e t r k

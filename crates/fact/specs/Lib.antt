@@ -1,3 +1,4 @@
 pub mod Stands
 pub mod Edges
 pub mod Rows
+pub mod Sought

@@ -1,4 +1,4 @@
-use mathlib.Core.Path.{refl, sym, _∙_}
+use mathlib.Core.Path.{refl}
 use mathlib.Core.Bool.{true, false}
 use borrow.Author.Needs.{needs}
 use Rattle.paper.proofs.Least.{none-some}
@@ -7,34 +7,21 @@ use Rattle.fact.proofs.evidence_rule.Statement.{statement}
 use Rattle.fact.proofs.evidence_rule.Tie as tie
 
 returns : tie.Need-returns
-returns c =
-    let a = c .before in
-    evidence-is _ _ _ (a .before .before .pre .1 .1 .0) true _ _ (sym (c .if1 .taken) ∙ a .bad-rows .ensures) refl refl
+returns c = evidence-is _ _ _ (c .before .before .before .pre .1 .1 .0) true _ _ (cc) refl refl
 
 bad-steps-requires : tie.Need-bad-steps-requires
 bad-steps-requires c κs =
-    let a = c .before in
-    (search needs, (search needs, (search needs, (search needs, record { sound = none-some _ _ (sym (a .bad-rows .ensures) ∙ c .if1 .left) }))))
+    let p = c .before .before .before .pre in
+    (p .0, (p .1 .0, (p .1 .1 .0, (p .1 .1 .1, record { sound = none-some _ _ (cc) }))))
 
 returns-2 : tie.Need-returns-2
-returns-2 c =
-    let a = c .before .before .before in
-    evidence-is _ _ _ (a .before .before .pre .1 .1 .0) false true _ (sym (c .before .before .if1 .left) ∙ a .bad-rows .ensures)
-    (sym (c .if2 .taken) ∙ c .before .bad-steps .ensures) refl
+returns-2 c = evidence-is _ _ _ (c .before .before .before .before .before .pre .1 .1 .0) false true _ (cc) (cc) refl
 
 returns-3 : tie.Need-returns-3
-returns-3 c =
-    let b = c .before .before .before in
-    let a = b .before .before in
-    evidence-is _ _ _ (a .before .before .pre .1 .1 .0) false false true (sym (b .before .if1 .left) ∙ a .bad-rows .ensures)
-    (sym (c .before .before .if2 .left) ∙ b .bad-steps .ensures) (sym (c .if3 .taken) ∙ c .before .bad-manys .ensures)
+returns-3 c = evidence-is _ _ _ (c .before .before .before .before .before .before .before .pre .1 .1 .0) false false true (cc) (cc) (cc)
 
 returns-4 : tie.Need-returns-4
-returns-4 c =
-    let b = c .before .before .before in
-    let a = b .before .before in
-    evidence-is _ _ _ (a .before .before .pre .1 .1 .0) false false false (sym (b .before .if1 .left) ∙ a .bad-rows .ensures)
-    (sym (c .before .before .if2 .left) ∙ b .bad-steps .ensures) (sym (c .if3 .left) ∙ c .before .bad-manys .ensures)
+returns-4 c = evidence-is _ _ _ (c .before .before .before .before .before .before .before .pre .1 .1 .0) false false false (cc) (cc) (cc)
 
 pub evidence-rule-spec : {M : Type 1} → statement M
 evidence-rule-spec =

@@ -1,8 +1,8 @@
 use native.Mathlib.Omega.{arith}
 use borrow.Author.Needs.{needs}
 use Rattle.fact.proofs.OneStep.{in-range, step-leaves, step-in}
-use Rattle.fact.proofs.bad_step.Statement.{statement}
-use Rattle.fact.proofs.bad_step.Tie as tie
+use Rattle.fact.proofs.steps.bad_step.Statement.{statement}
+use Rattle.fact.proofs.steps.bad_step.Tie as tie
 
 returns : tie.Need-returns
 returns c =

@@ -3,8 +3,8 @@ use native.Mathlib.Omega.{arith}
 use borrow.Author.Needs.{needs}
 use Rattle.fact.proofs.OneRow.{row-high, row-other, row-long, row-block, row-set}
 use Rattle.fact.proofs.Scopes.{row-is, limit-low, limit-high}
-use Rattle.fact.proofs.bad_row.Statement.{statement}
-use Rattle.fact.proofs.bad_row.Tie as tie
+use Rattle.fact.proofs.rows.bad_row.Statement.{statement}
+use Rattle.fact.proofs.rows.bad_row.Tie as tie
 
 returns : tie.Need-returns
 returns c =

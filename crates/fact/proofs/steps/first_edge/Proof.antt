@@ -4,8 +4,8 @@ use native.Mathlib.Omega.{arith}
 use borrow.Author.Needs.{needs}
 use Rattle.fact.specs.Edges.{Splits}
 use Rattle.fact.proofs.Halves.{halves-start, halves-low, halves-high, halves-end}
-use Rattle.fact.proofs.first_edge.Statement.{statement}
-use Rattle.fact.proofs.first_edge.Tie as tie
+use Rattle.fact.proofs.steps.first_edge.Statement.{statement}
+use Rattle.fact.proofs.steps.first_edge.Tie as tie
 
 abbrev Inv-loop : tie.InvT-loop
 Inv-loop file t v low₀ high₀ low high = Splits file t v low high

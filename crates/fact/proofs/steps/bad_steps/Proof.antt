@@ -1,10 +1,10 @@
 use Prim.Native.Nat.{_-_}
 use native.Mathlib.Omega.{arith}
 use borrow.Author.Needs.{needs}
-use Rattle.fact.proofs.Looks.{some-found, some-end}
+use Rattle.paper.proofs.Least.{some-found, some-end}
 use Rattle.fact.proofs.OneStep.{Reached, reached-start, reached-more, reached-after}
-use Rattle.fact.proofs.bad_steps.Statement.{statement}
-use Rattle.fact.proofs.bad_steps.Tie as tie
+use Rattle.fact.proofs.steps.bad_steps.Statement.{statement}
+use Rattle.fact.proofs.steps.bad_steps.Tie as tie
 
 abbrev Inv-loop : tie.InvT-loop
 Inv-loop file t h i₀ i = Reached file t h i

@@ -3,10 +3,10 @@ use mathlib.Core.Logic.{⊎-elim}
 use native.Mathlib.Omega.{arith}
 use borrow.Author.Needs.{needs}
 use Rattle.paper.specs.Files.{rowAt}
-use Rattle.fact.proofs.Slots.{held-set}
+use Rattle.fact.proofs.Slots.{set-held}
 use Rattle.fact.proofs.Sets.{Merged, merged-start, merged-at, merged-out, merged-above, merged-skip, merged-same, merged-end}
-use Rattle.fact.proofs.drops.Statement.{statement}
-use Rattle.fact.proofs.drops.Tie as tie
+use Rattle.fact.proofs.steps.drops.Statement.{statement}
+use Rattle.fact.proofs.steps.drops.Tie as tie
 
 abbrev Inv-loop : tie.InvT-loop
 Inv-loop file r n s m i₀ j₀ i j = Merged (rowAt file r) (rowAt file s) n m i j
@@ -16,21 +16,21 @@ abbrev μ-loop : tie.MeasureT-loop
 
 returns : tie.Need-returns Inv-loop μ-loop
 returns c =
-    let p = c .before .before .before .before .pre .1 .set in
-    merged-out _ _ _ _ (held-set _ _ (p .number) (p .few)) _ _ (c .before .before .loop .inv) (c .before .loop-test .taken) (c .if1 .taken)
+    let p = c .before .before .before .before .pre .1 in
+    merged-out _ _ _ _ (set-held (p .set)) _ _ (c .before .before .loop .inv) (c .before .loop-test .taken) (c .if1 .taken)
 
 returns-2 : tie.Need-returns-2 Inv-loop μ-loop
 returns-2 c =
     let a = c .before .before .before in
     let p = a .before .before .before .before .pre .1 in
-    merged-above _ _ _ _ (held-set _ _ (p .set .number) (p .set .few)) _ _ (a .before .before .loop .inv) (a .before .loop-test .taken)
+    merged-above _ _ _ _ (set-held (p .set)) _ _ (a .before .before .loop .inv) (a .before .loop-test .taken)
     (a .if1 .left) _ _ (c .before .before .slot-at .ensures) (c .before .slot-at2 .ensures) (p .rises) (c .if2 .taken)
 
 loop-again : tie.Need-loop-again Inv-loop μ-loop
 loop-again c =
     let a = c .before .before .before .before in
     let p = a .before .before .before .before .pre in
-    let e = held-set _ _ (p .1 .set .number) (p .1 .set .few) in
+    let e = set-held (p .1 .set) in
     ⊎-elim
     (λ w. merged-at _ _ _ _ _ _ _ (w .1)
     (merged-same _ _ _ _ e _ _ (a .before .before .loop .inv) (a .before .loop-test .taken) (a .if1 .left) _ _ (c .before .before .before .slot-at .ensures) (c .before .before .slot-at2 .ensures) (p .0 .rises) (w .0 .taken)))

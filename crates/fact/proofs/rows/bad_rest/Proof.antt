@@ -1,15 +1,14 @@
 use Prim.Native.Nat.{_-_, _≤_}
 use borrow.Author.Needs.{needs}
 use borrow.Author.Tests.{eq-eqb, ne-eqb}
-use mathlib.Core.Path.{refl, sym, ap}
+use mathlib.Core.Path.{refl, ap}
 use mathlib.Core.Bool.{not}
 use Rattle.paper.specs.Files.{rowAt}
-use Rattle.paper.proofs.Least.{Passed}
+use Rattle.paper.proofs.Least.{Passed, passed-more, some-found, some-end}
 use Rattle.fact.specs.Rows.{unfree}
-use Rattle.fact.proofs.Looks.{some-found, some-end, passed-at}
 use Rattle.fact.proofs.Slots.{unfree-before, unfree-at}
-use Rattle.fact.proofs.bad_rest.Statement.{statement}
-use Rattle.fact.proofs.bad_rest.Tie as tie
+use Rattle.fact.proofs.rows.bad_rest.Statement.{statement}
+use Rattle.fact.proofs.rows.bad_rest.Tie as tie
 
 abbrev Inv-loop : tie.InvT-loop
 Inv-loop file at n k₀ k = Passed (unfree n (rowAt file at)) 7 k × (n ≤ k)
@@ -23,14 +22,12 @@ loop-holds c = (record { within = search needs; none = unfree-before _ _ }, sear
 returns : tie.Need-returns Inv-loop μ-loop
 returns c =
     some-found _ _ _ (c .before .before .before .loop .inv .0) _ (c .before .before .loop-test .taken)
-    (sym
-    (unfree-at _ _ _ _ _ (c .before .before .before .loop .inv .1) (c .before .slot-at .ensures) (ap not (ne-eqb _ _ (c .if1 .taken)))))
-    refl
+    (unfree-at _ _ _ _ _ (c .before .before .before .loop .inv .1) (c .before .slot-at .ensures) (ap not (ne-eqb _ _ (c .if1 .taken)))) refl
 
 loop-again : tie.Need-loop-again Inv-loop μ-loop
 loop-again c = (
-  passed-at _ _ _ (c .before .before .before .loop .inv .0) (c .before .before .loop-test .taken)
-      (unfree-at _ _ _ _ _ (c .before .before .before .loop .inv .1) (c .before .slot-at .ensures) (ap not (eq-eqb _ _ (c .if1 .left)))),
+  passed-more _ _ _ _ (c .before .before .before .loop .inv .0) (c .before .before .loop-test .taken)
+      (unfree-at _ _ _ _ _ (c .before .before .before .loop .inv .1) (c .before .slot-at .ensures) (ap not (eq-eqb _ _ (c .if1 .left)))) refl,
   search needs,
 )
 

@@ -6,12 +6,12 @@ use lib.Dec.{eqb}
 use borrow.Author.Tests.{eqb-false}
 use Rattle.paper.specs.Files.{rowAt, caseOf}
 use Rattle.paper.specs.Facts.{badSlot}
-use Rattle.paper.proofs.Least.{Passed, passed-start, passed-more}
+use Rattle.paper.proofs.Least.{Passed, passed-start, passed-more, some-found, some-end}
 use Rattle.fact.specs.Stands.{factOf}
-use Rattle.fact.proofs.Looks.{some-found, some-end, or-left}
-use Rattle.fact.proofs.Slots.{lowest, lowest-start, lowest-more, held-set, block-test}
-use Rattle.fact.proofs.bad_blocks.Statement.{statement}
-use Rattle.fact.proofs.bad_blocks.Tie as tie
+use Rattle.paper.proofs.Says.{neither}
+use Rattle.fact.proofs.Slots.{lowest, lowest-start, lowest-more, set-held, block-test}
+use Rattle.fact.proofs.rows.bad_blocks.Statement.{statement}
+use Rattle.fact.proofs.rows.bad_blocks.Tie as tie
 
 abbrev Inv-loop : tie.InvT-loop
 Inv-loop file t h at n low₀ k₀ low k = Passed (badSlot (caseOf file t) (factOf file h) (rowAt file at)) n k × (low ≡ lowest (rowAt file at) k)
@@ -25,13 +25,13 @@ returns c =
     let s = a .before .before .before .before .pre in
     let i = a .before .before .before .before .args in
     some-found _ _ _ (a .before .before .loop .inv .0) _ (a .before .loop-test .taken)
-    (block-test (i .file .now) (i .t) (i .h) _ _ _ (a .slot-at .ensures) _ _ (s .1 .0) (held-set _ _ (s .1 .1 .number) (s .1 .1 .few)) (a .before .loop-test .taken) (a .before .before .loop .inv .1))
+    (block-test (i .file .now) (i .t) (i .h) _ _ _ (a .slot-at .ensures) _ _ _ (s .1 .0) (set-held (s .1 .1)) (a .before .loop-test .taken) (a .before .before .loop .inv .1) (c .before .before .home .ensures .0))
     (c .if1 .taken)
 
 add-low : tie.Need-add-low Inv-loop μ-loop
 add-low c =
     let x = c .before .before .before .before .slot-at .result in
-    omega (arith, eqb-false x 65535 (or-left (eqb x 65535) _ (c .if1 .left)))
+    omega (arith, eqb-false x 65535 (neither (eqb x 65535) _ (c .if1 .left) .0))
 
 loop-again : tie.Need-loop-again Inv-loop μ-loop
 loop-again c =
@@ -39,7 +39,7 @@ loop-again c =
     let s = a .before .before .before .before .pre in
     let i = a .before .before .before .before .args in (
       passed-more _ _ _ _ (a .before .before .loop .inv .0) (a .before .loop-test .taken)
-          (block-test (i .file .now) (i .t) (i .h) _ _ _ (a .slot-at .ensures) _ _ (s .1 .0) (held-set _ _ (s .1 .1 .number) (s .1 .1 .few)) (a .before .loop-test .taken) (a .before .before .loop .inv .1))
+          (block-test (i .file .now) (i .t) (i .h) _ _ _ (a .slot-at .ensures) _ _ _ (s .1 .0) (set-held (s .1 .1)) (a .before .loop-test .taken) (a .before .before .loop .inv .1) (c .before .before .home .ensures .0))
           (c .if1 .left),
       lowest-more _ _ _ (a .slot-at .ensures),
     )
@@ -55,8 +55,7 @@ bad-blocks-spec =
     μ-loop
     (λ c. (passed-start _ _, lowest-start _))
     (λ c κs. search needs)
-    (λ c. search needs)
-    (λ c. search needs)
+    (λ c κs. search needs)
     returns
     add-low
     (λ c. search needs)
