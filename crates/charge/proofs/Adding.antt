@@ -1,7 +1,6 @@
 -- The laws of the loop that adds the facts. Assumes nothing.
 use Prim.Native.Nat.{ℕ, _+_, _%_, _≤_, _<_}
 use native.Mathlib.Omega.{arith}
-use native.Mathlib.Nat.{mod-lt}
 use native.Mathlib.Numerals.{add-one}
 use mathlib.Core.Path.{_≡_, refl}
 use mathlib.Core.List.{List}
@@ -15,7 +14,7 @@ use Rattle.charge.specs.Tables.{plus, placeOf, Open, Limits, Lowered, Co
 use Rattle.charge.specs.declared.facts.Cost.{Cost}
 use Rattle.charge.proofs.Cover.{covered-more, covered-limits}
 use Rattle.charge.proofs.Parts.{part-fact}
-use Rattle.charge.proofs.Small.{fact-head, fact-small}
+use Rattle.charge.proofs.Small.{set-low, fact-head, fact-small}
 use Rattle.charge.proofs.Sums.{at-end}
 use Rattle.charge.proofs.Tallies.{grouped-more, grouped-open}
 
@@ -44,9 +43,6 @@ module _ (f : List ℕ) (t : Trailer) (old : List ℕ) (i p : ℕ) (cover charge
     pub end-at : factEnd f t p ≤ endAt f
     end-at = rw (w .place) (r .placed .ends i h)
 
-    set-low : caseOf f t .fact i .block % t .sets < 64
-    set-low = let h : 0 < t .sets = omega (arith, r .laid .sets-low) in omega (arith, mod-lt (caseOf f t .fact i .block) h, r .laid .sets-high)
-
     limit-low : caseOf f t .fact i .limit < 10
     unfolding caseOf
     limit-low = omega (arith, fact-head f t (r .laid) (r .sound) i h .high, r .laid .ways-high)
@@ -56,7 +52,7 @@ module _ (f : List ℕ) (t : Trailer) (old : List ℕ) (i p : ℕ) (cover charge
       unfolding caseOf costOf
       adding-open =
           rw (costs, w .place)
-          (grouped-open _ _ _ _ i charged entered (w .added) set-low limit-low (omega (arith, r .laid .facts-high))
+          (grouped-open _ _ _ _ i charged entered (w .added) (set-low f t (r .laid) (r .sound) _) limit-low (omega (arith, r .laid .facts-high))
           (λ j q. let s = fact-small f t (r .laid) (r .sound) j (omega arith) in (s .0, omega (arith, s .1))))
 
       pub adding-more :
@@ -70,6 +66,6 @@ module _ (f : List ℕ) (t : Trailer) (old : List ℕ) (i p : ℕ) (cover charge
             within = omega arith;
             place = rw add-one refl;
             covered = covered-more (caseOf f t) i cover new (w .covered) (rw (← w .place) low);
-            added = grouped-more _ _ _ _ i charged entered (w .added) set-low limit-low;
+            added = grouped-more _ _ _ _ i charged entered (w .added) (set-low f t (r .laid) (r .sound) _) limit-low;
             part = part-fact (caseOf f t) old i _ bounds (omega (arith, r .laid .facts-high)) refl (w .part);
           })

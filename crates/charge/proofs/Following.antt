@@ -4,7 +4,7 @@ use native.Mathlib.Omega.{arith}
 use native.Mathlib.Decide.{ℕ-discrete, decLt}
 use mathlib.Core.Path.{_≡_, refl, sym, _∙_, ap, subst}
 use mathlib.Core.Logic.{_≢_}
-use mathlib.Core.Bool.{Bool, true, false, cond, _&&_}
+use mathlib.Core.Bool.{Bool, false, cond, _&&_, and-false}
 use mathlib.Core.List.{List}
 use borrow.Author.Tests.{le-leb, lt-leb, ne-eqb}
 use lib.Dec.{eqb, leb}
@@ -21,11 +21,7 @@ module _ (e : Case) (first last b : ℕ) where
   -- what is not of b's bucket does not fetch b
   fetches-other : (v : ℕ) → bucket e v ≢ b % 1024 → fetchesIn e first last b v ≡ false
   unfolding fetchesIn
-  fetches-other v h = rw (ne-eqb (e .block v) b (λ q. h (ap (λ x. x % 1024) q))) (never (leb first v && leb v last))
-    where
-      never : (t : Bool) → (t && false) ≡ false
-      never true = refl
-      never false = refl
+  fetches-other v h = rw (ne-eqb (e .block v) b (λ q. h (ap (λ x. x % 1024) q))) (and-false (leb first v && leb v last))
 
   fetches-before : (v : ℕ) → v < first → fetchesIn e first last b v ≡ false
   unfolding fetchesIn

@@ -3,7 +3,7 @@ use Prim.Native.Nat.{ℕ, suc, _+_, _≤_, _<_}
 use native.Mathlib.Omega.{arith}
 use native.Mathlib.Decide.{ℕ-discrete, decLe}
 use mathlib.Core.Path.{_≡_, refl, _∙_, ap}
-use mathlib.Core.Bool.{Bool, true, false, cond, not, _&&_}
+use mathlib.Core.Bool.{Bool, true, false, cond, not, _&&_, and-true, and-false}
 use mathlib.Core.List.{List}
 use borrow.Author.Tests.{le-leb, lt-leb, eq-eqb, ne-eqb}
 use lib.Dec.{eqb, leb}
@@ -70,16 +70,8 @@ module _ (s x a : ℕ → ℕ) (q n : ℕ) where
   module _ (hx : (i : ℕ) → i < n → 1 ≤ x i) where
     pub up-none : upTo 0 ≡ 0
     unfolding upTo
-    up-none = sum-none _ n (λ i h. nothing (eqb (s i) q) (x i) (a i) (hx i h))
-      where
-        nothing : (b : Bool) (x a : ℕ) → 1 ≤ x → cond (b && leb x 0) a 0 ≡ 0
-        nothing true x a h = rw (lt-leb x 0 h) refl
-        nothing false x a h = refl
+    up-none = sum-none _ n (λ i h. rw (lt-leb (x i) 0 (hx i h), and-false) refl)
 
     pub past-all : beyond 0 ≡ sumTo (λ i. cond (eqb (s i) q) (a i) 0) n
     unfolding beyond
-    past-all = sum-same _ _ n (λ i h. all (eqb (s i) q) (x i) (a i) (hx i h))
-      where
-        all : (b : Bool) (x a : ℕ) → 1 ≤ x → cond (b && not (leb x 0)) a 0 ≡ cond b a 0
-        all true x a h = rw (lt-leb x 0 h) refl
-        all false x a h = refl
+    past-all = sum-same _ _ n (λ i h. rw (lt-leb (x i) 0 (hx i h), and-true) refl)

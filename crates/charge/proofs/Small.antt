@@ -1,7 +1,7 @@
 -- The numbers of a file's facts and nodes are small, and so are their sums. Assumes nothing.
-use Prim.Native.Nat.{ℕ, _+_, _-_, _≤_, _<_}
+use Prim.Native.Nat.{ℕ, _+_, _-_, _%_, _≤_, _<_}
 use native.Mathlib.Omega.{arith}
-use native.Mathlib.Nat.{div-le-self}
+use native.Mathlib.Nat.{div-le-self, mod-lt}
 use mathlib.Core.Bool.{cond, not}
 use mathlib.Core.List.{List}
 use lib.Dec.{eqb, ltb}
@@ -26,6 +26,10 @@ bound-low p k l E N a h =
     (cond-low (eqb p 1) (cond-low (ltb l 2) z (omega (arith, div-le-self (N - E) (g k l)))) (cond-low (ltb l 2) z (omega arith)))
 
 module _ (f : List ℕ) (t : Trailer) (laid : Laid f t) (sound : Sound (caseOf f t)) where
+  -- "block b lives in set b mod S"
+  pub set-low : (b : ℕ) → b % t .sets < 64
+  set-low b = let h : 0 < t .sets = omega (arith, laid .sets-low) in omega (arith, mod-lt b h, laid .sets-high)
+
   module _ (i : ℕ) (h : i < t .facts) where
     pub fact-head : SoundHead (caseOf f t) (caseOf f t .fact i)
     unfolding caseOf

@@ -1,7 +1,6 @@
 -- The laws of the loop that adds the nodes. Assumes nothing.
 use Prim.Native.Nat.{ℕ, _+_, _%_, _≤_, _<_}
 use native.Mathlib.Omega.{arith}
-use native.Mathlib.Nat.{mod-lt}
 use mathlib.Core.Path.{_≡_}
 use mathlib.Core.Bool.{cond, not}
 use mathlib.Core.List.{List}
@@ -13,7 +12,7 @@ use Rattle.paper.specs.Files.{nodeAt, caseOf}
 use Rattle.charge.specs.Ready.{Ready}
 use Rattle.charge.specs.Tables.{plus, placeOf, Open, weight, Covered, NodesAdded}
 use Rattle.charge.proofs.Cover.{lowest-high}
-use Rattle.charge.proofs.Small.{weight-small}
+use Rattle.charge.proofs.Small.{set-low, weight-small}
 use Rattle.charge.proofs.Sums.{at-end}
 use Rattle.charge.proofs.Tallies.{grouped-more, grouped-open}
 
@@ -27,9 +26,6 @@ module _ (f : List ℕ) (t : Trailer) (v : ℕ) (fetched spent : List ℕ) (w : 
   walking-end h = at-end (λ n. NodesAdded (caseOf f t) n fetched spent) v (t .nodes) (w .within) h (w .added)
 
   module _ (c cover : List ℕ) (r : Ready f t c) (k : Covered (caseOf f t) (t .facts) cover) (h : v < t .nodes) (b x : ℕ) (eb : b ≡ nodeAt f v) (ex : x ≡ cond (not (eqb b none)) (getD c v 0) 0) where
-    set-low : nodeAt f v % t .sets < 64
-    set-low = let h : 0 < t .sets = omega (arith, r .laid .sets-low) in omega (arith, mod-lt (nodeAt f v) h, r .laid .sets-high)
-
     amount : x ≡ weight (caseOf f t) v
     unfolding caseOf weight
     amount = rw (← r .counted .at v h, ← eb) ex
@@ -38,7 +34,7 @@ module _ (f : List ℕ) (t : Trailer) (v : ℕ) (fetched spent : List ℕ) (w : 
     unfolding caseOf
     walking-open =
         rw (eb, amount, k .lowest v h)
-        (grouped-open _ _ _ _ v fetched spent (w .added) set-low (omega (arith, lowest-high (caseOf f t) (t .facts) v)) (omega (arith, r .laid .nodes-high))
+        (grouped-open _ _ _ _ v fetched spent (w .added) (set-low f t (r .laid) (r .sound) _) (omega (arith, lowest-high (caseOf f t) (t .facts) v)) (omega (arith, r .laid .nodes-high))
         (λ j q. let s = weight-small f t (r .laid) (r .sound) j (omega arith) in (omega (arith, s), omega (arith, s))))
 
     pub walking-more :
@@ -49,5 +45,5 @@ module _ (f : List ℕ) (t : Trailer) (v : ℕ) (fetched spent : List ℕ) (w : 
         rw (ef, es, eb, amount, k .lowest v h)
         (record {
           within = omega arith;
-          added = grouped-more _ _ _ _ v fetched spent (w .added) set-low (omega (arith, lowest-high (caseOf f t) (t .facts) v));
+          added = grouped-more _ _ _ _ v fetched spent (w .added) (set-low f t (r .laid) (r .sound) _) (omega (arith, lowest-high (caseOf f t) (t .facts) v));
         })
