@@ -70,10 +70,10 @@ module _ (e : Case) (g : SoundGraph e) (w : ℕ) (hw : w < e .loops) where
       product-but _ _ w (e .loop w .bound) (e .loops) (rw (header-in, not-around) (omega arith))
       (λ j hj n. ap (λ (b : Bool). cond b (e .loop j .bound) 1) (same-around j hj n)) hw
 
-  pub loop-entries : count e (e .loop w .first) / e .loop w .bound ≡ entriesOf e (e .loop w)
+  loop-entries : count e (e .loop w .first) / e .loop w .bound ≡ entriesOf e (e .loop w)
   loop-entries = div-eq-of-eq-mul-left (omega (arith, g .fits w hw .2)) header-count
 
-  pub loop-entries-low : entriesOf e (e .loop w) ≤ 4294967295
+  loop-entries-low : entriesOf e (e .loop w) ≤ 4294967295
   loop-entries-low =
       let h : zero < e .loop w .bound = omega (arith, g .fits w hw .2) in
       omega (

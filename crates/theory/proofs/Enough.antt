@@ -1,5 +1,5 @@
 -- Rows of what walks gather are sound evidence: 9 where no walk from b arrives, 8 where as many as the limit are gathered, else the set. Assumes nothing.
-use Prim.Native.Nat.{ℕ, _≤_, _<_}
+use Prim.Native.Nat.{ℕ, suc, _≤_, _<_}
 use native.Mathlib.Omega.{arith}
 use native.Mathlib.Decide.{decLt}
 use mathlib.Core.Path.{_≡_, refl}
