@@ -1,18 +1,22 @@
--- A fact of limit at most l covers the node exactly when the least limit that covers it is at most l. Assumes nothing.
-use Prim.Native.Nat.{ℕ, zero, suc, _<_, min}
+-- The laws of the least limit that covers a node: a fact of limit at most l covers the node exactly when it is at most l. Assumes nothing.
+use Prim.Native.Nat.{ℕ, zero, suc, _+_, _≤_, _<_, min}
 use native.Mathlib.Omega.{arith}
 use native.Mathlib.Decide.{decLe}
+use native.Mathlib.Numerals.{add-one}
 use mathlib.Core.Path.{_≡_, refl, sym, _∙_, ap₂}
-use mathlib.Core.Logic.{_⊎_, ⊎-elim}
+use mathlib.Core.Logic.{inl, inr, ⊎-elim}
 use mathlib.Core.Bool.{Bool, true, false, cond, _&&_, _||_}
+use mathlib.Core.List.{List}
 use borrow.Author.Count.{below-more}
-use borrow.Author.Tests.{le-leb, lt-leb}
+use borrow.Author.Tests.{lt-leb}
 use lib.Dec.{leb}
+use lib.ListN.{replicate, getD-replicate, length-replicate}
 use Rattle.paper.specs.Lists.{some, lowestTo}
 use Rattle.paper.specs.Cases.{Fact, Case}
 use Rattle.paper.specs.Bounds.{covers}
 use Rattle.paper.proofs.Least.{None, Found, look, some-none, some-is}
-use Rattle.charge.specs.Tables.{lowestLimit}
+use Rattle.paper.proofs.Says.{says-le, says-or, says-same}
+use Rattle.charge.specs.Tables.{lowestLimit, Limits, Lowered, Covered}
 
 some-more : (p : ℕ → Bool) (n : ℕ) → some p (suc n) ≡ (some p n || p n)
 some-more p n =
@@ -29,15 +33,43 @@ some-more p n =
 
 leb-min : (a b l : ℕ) → leb (min a b) l ≡ (leb a l || leb b l)
 leb-min a b l =
-    elim (decLe a l) [
-      | yes h ↦ rw (le-leb a l h) (le-leb (min a b) l (omega arith))
-      | no h ↦
-          rw (lt-leb a l (omega arith))
-          (elim (decLe b l) [
-            | yes k ↦ le-leb (min a b) l (omega arith) ∙ sym (le-leb b l k)
-            | no k ↦ lt-leb (min a b) l (omega arith) ∙ sym (lt-leb b l (omega arith))
-          ])
-    ]
+    says-same
+    (λ (h : min a b ≤ l). elim (decLe a l) [ yes k ↦ inl k | no k ↦ inr (omega arith) ])
+    (⊎-elim (λ (h : a ≤ l). omega arith) (λ (h : b ≤ l). omega arith))
+    (says-le _ _) (says-or (says-le a l) (says-le b l))
+
+module _ (e : Case) where
+  -- the least limit is at most 9, and at least 1 where the facts' limits are
+  pub lowest-high : (n v : ℕ) → lowestLimit e n v ≤ 9
+  unfolding lowestLimit lowestTo
+  lowest-high zero v = omega arith
+  lowest-high (suc n) v = omega (arith, lowest-high n v)
+
+  pub lowest-low : (n v : ℕ) → ((i : ℕ) → i < n → 1 ≤ e .fact i .limit) → 1 ≤ lowestLimit e n v
+  unfolding lowestLimit lowestTo
+  lowest-low zero v h = omega arith
+  lowest-low (suc n) v h = omega (arith, lowest-low n v (λ i l. h i (omega arith)), one (covers e (e .fact n) v) (e .fact n .limit) (h n (omega arith)))
+    where
+      one : (b : Bool) (x : ℕ) → 1 ≤ x → 1 ≤ cond b x 9
+      one true x h = h
+      one false x h = omega arith
+
+  -- no fact is added, and one more
+  pub covered-start : e .nodes ≤ 1024 → Covered e 0 (replicate 1024 9)
+  unfolding lowestLimit lowestTo
+  covered-start h =
+      record {
+        room = omega (arith, length-replicate {A = ℕ} 1024 9);
+        lowest = λ v k. getD-replicate 1024 v 9 0 (omega arith);
+      }
+
+  pub covered-more : (n : ℕ) (cover new : List ℕ) → Covered e n cover → Lowered e (covers e (e .fact n)) (e .fact n .limit) cover new → Covered e (n + 1) new
+  unfolding lowestLimit lowestTo
+  covered-more n cover new w low =
+      record { room = omega (arith, w .room, low .room); lowest = λ v h. rw add-one (low .is v h ∙ rw (w .lowest v h) refl) }
+
+  pub covered-limits : (n : ℕ) (cover : List ℕ) → Covered e n cover → Limits e cover
+  covered-limits n cover w = record { room = w .room; low = λ v h. rw (w .lowest v h) (lowest-high n v) }
 
 module _ (e : Case) (test : Fact → Bool) (v l : ℕ) (small : l < 9) where
   -- a fact that covers the node counts with its limit, any other as 9

@@ -2,17 +2,19 @@
 -- Assumes nothing.
 use Prim.Native.Nat.{ℕ, zero, suc, _*_, _/_, _≤_, _<_}
 use native.Mathlib.Omega.{arith}
-use native.Mathlib.Decide.{ℕ-discrete, decLe, decLt}
+use native.Mathlib.Decide.{ℕ-discrete, decLt}
 use native.Mathlib.Nat.{mul-assoc, mul-comm, div-eq-of-eq-mul-left, le-mul-of-pos-right}
 use mathlib.Core.Path.{_≡_, refl, sym, _∙_, ap, ap₂}
 use mathlib.Core.Logic.{_≢_}
 use mathlib.Core.Bool.{Bool, true, false, cond}
-use borrow.Author.Tests.{lt-ltb, le-ltb, le-leb, lt-leb, eq-eqb, ne-eqb}
+use borrow.Author.Tests.{eq-eqb, ne-eqb}
 use Rattle.paper.specs.Lists.{productTo}
 use Rattle.paper.specs.Machines.{none}
 use Rattle.paper.specs.Cases.{Case, inside}
 use Rattle.paper.specs.Graphs.{count, around, entriesOf}
-use Rattle.paper.proofs.Meaning.{SoundGraph}
+use Rattle.paper.proofs.Meaning.{In, SoundGraph}
+use Rattle.paper.proofs.Says.{says-is, says-false, says-same}
+use Rattle.paper.proofs.GraphLaws.{inside-says, around-says}
 use mathlib.Core.List.{List}
 use lib.ListN.{getD}
 use Rattle.paper.specs.declared.Loop.{Loop}
@@ -46,42 +48,21 @@ module _ (F G : ℕ → ℕ) where
 
 module _ (e : Case) (g : SoundGraph e) (w : ℕ) (hw : w < e .loops) where
   header-in : inside (e .loop w) (e .loop w .first) ≡ true
-  unfolding inside
-  header-in =
-      rw (
-        le-leb (e .loop w .first) (e .loop w .first) (omega arith),
-        le-leb (e .loop w .first) (e .loop w .last) (omega (arith, g .fits w hw .0)),
-      ) refl
+  header-in = says-is (inside-says _ _) (omega arith, g .fits w hw .0)
 
   not-around : around (e .loop w) (e .loop w) ≡ false
-  unfolding around
-  not-around = rw (le-ltb (e .loop w .first) (e .loop w .first) (omega arith)) refl
+  not-around = says-false (around-says _ _) .1 (λ (h : (e .loop w .first < e .loop w .first) × (e .loop w .last ≤ e .loop w .last)). omega arith)
 
   same-around : (j : ℕ) → j < e .loops → j ≢ w → inside (e .loop j) (e .loop w .first) ≡ around (e .loop w) (e .loop j)
-  unfolding inside around
   same-around j hj n =
+      says-same
+      (λ (h : In (e .loop j) (e .loop w .first)).
       elim (decLt j w) [
-        | yes l ↦
-            let r : e .loop j .first < e .loop w .first = g .rises j w l hw in
-            rw (
-              le-leb (e .loop j .first) (e .loop w .first) (omega arith),
-              lt-ltb (e .loop j .first) (e .loop w .first) r,
-            )
-            (elim (decLe (e .loop w .first) (e .loop j .last)) [
-              | yes q ↦
-                  le-leb (e .loop w .first) (e .loop j .last) q
-                  ∙ sym (le-leb (e .loop w .last) (e .loop j .last) (g .nested j w l hw q))
-              | no q ↦
-                  lt-leb (e .loop w .first) (e .loop j .last) (omega arith)
-                  ∙ sym (lt-leb (e .loop w .last) (e .loop j .last) (omega (arith, g .fits w hw .0)))
-            ])
-        | no l ↦
-            let r : e .loop w .first < e .loop j .first = g .rises w j (omega arith) hj in
-            rw (
-              lt-leb (e .loop j .first) (e .loop w .first) r,
-              le-ltb (e .loop j .first) (e .loop w .first) (omega arith),
-            ) refl
-      ]
+        | yes l ↦ (g .rises j w l hw, g .nested j w l hw (h .1))
+        | no l ↦ absurd (omega (arith, h .0, g .rises w j (omega arith) hj))
+      ])
+      (λ (h : (e .loop j .first < e .loop w .first) × (e .loop w .last ≤ e .loop j .last)). (omega arith, omega (arith, h .1, g .fits w hw .0)))
+      (inside-says _ _) (around-says _ _)
 
   header-count : count e (e .loop w .first) ≡ entriesOf e (e .loop w) * e .loop w .bound
   unfolding count entriesOf
@@ -89,10 +70,10 @@ module _ (e : Case) (g : SoundGraph e) (w : ℕ) (hw : w < e .loops) where
       product-but _ _ w (e .loop w .bound) (e .loops) (rw (header-in, not-around) (omega arith))
       (λ j hj n. ap (λ (b : Bool). cond b (e .loop j .bound) 1) (same-around j hj n)) hw
 
-  pub loop-entries : count e (e .loop w .first) / e .loop w .bound ≡ entriesOf e (e .loop w)
+  loop-entries : count e (e .loop w .first) / e .loop w .bound ≡ entriesOf e (e .loop w)
   loop-entries = div-eq-of-eq-mul-left (omega (arith, g .fits w hw .2)) header-count
 
-  pub loop-entries-low : entriesOf e (e .loop w) ≤ 4294967295
+  loop-entries-low : entriesOf e (e .loop w) ≤ 4294967295
   loop-entries-low =
       let h : zero < e .loop w .bound = omega (arith, g .fits w hw .2) in
       omega (

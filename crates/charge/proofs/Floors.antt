@@ -12,13 +12,11 @@ use Rattle.paper.specs.Lists.{lowestTo}
 use Rattle.paper.specs.Cases.{Case}
 use Rattle.paper.specs.Bounds.{floorOf, A, M, floorAt, setBound}
 use Rattle.paper.specs.Files.{caseOf}
-use Rattle.paper.proofs.Meaning.{Sound}
 use Rattle.paper.proofs.Sums.{Lowest, lowest-start, lowest-more}
-use Rattle.layout.specs.Laid.{Laid}
-use Rattle.charge.specs.Tables.{placeOf, FactsAdded, NodesAdded}
-use Rattle.charge.proofs.Facts.{fact-head, entered-small, charged-small}
-use Rattle.charge.proofs.Nodes.{fetched-small, spent-small}
-use Rattle.charge.proofs.Sets.{A-is, M-start, M-more}
+use Rattle.charge.specs.Summed.{Summed}
+use Rattle.charge.specs.Tables.{placeOf}
+use Rattle.charge.proofs.Small.{fact-head, charged-small, entered-small, fetched-small, spent-small}
+use Rattle.charge.proofs.SetSums.{A-is, M-start, M-more}
 
 -- the loop has come to j, with m = M(j) and x the least so far
 pub record Flooring (e : Case) (q a m x j : ℕ) : Type 0 where
@@ -26,17 +24,17 @@ pub record Flooring (e : Case) (q a m x j : ℕ) : Type 0 where
   pub sum : m ≡ M e j q
   pub small : m ≤ 4398046510080 + 1099511627520 * j
 
-module _ (f : List ℕ) (t : Trailer) (laid : Laid f t) (sound : Sound (caseOf f t)) (entered charged fetched spent : List ℕ) (facts : FactsAdded (caseOf f t) (t .facts) entered charged) (nodes : NodesAdded (caseOf f t) (t .nodes) fetched spent) (q : ℕ) (hq : q < 64) where
+module _ (f : List ℕ) (t : Trailer) (charged entered fetched spent : List ℕ) (s : Summed f t charged entered fetched spent) (q : ℕ) (hq : q < 64) where
   sum-A : getD charged q 0 + getD spent (10 * q + 9) 0 ≡ A (caseOf f t) q
   unfolding caseOf
-  sum-A = A-is (caseOf f t) (fact-head f t laid sound) (laid .ways-high) q entered charged fetched spent facts nodes hq
+  sum-A = A-is (caseOf f t) (fact-head f t (s .laid) (s .sound)) (s .laid .ways-high) q charged entered fetched spent (s .facts) (s .nodes) hq
 
   pub A-small : getD charged q 0 + getD spent (10 * q + 9) 0 ≤ 1131397464718080
   A-small =
       omega (
         arith,
-        charged-small f t laid sound (t .facts) entered charged facts (omega arith) q (omega (arith, facts .sets)),
-        spent-small f t laid sound (t .nodes) fetched spent nodes (omega arith) (10 * q + 9) (omega (arith, nodes .limits)),
+        charged-small f t (s .laid) (s .sound) charged entered (s .facts) q hq,
+        spent-small f t (s .laid) (s .sound) fetched spent (s .nodes) (10 * q + 9) (omega arith),
       )
 
   pub fifo-set :
@@ -54,8 +52,8 @@ module _ (f : List ℕ) (t : Trailer) (laid : Laid f t) (sound : Sound (caseOf f
   flooring-start a =
       record {
         lowest = lowest-start (floorAt (caseOf f t) q) a (t .ways);
-        sum = M-start (caseOf f t) (fact-head f t laid sound) (laid .ways-high) q entered charged fetched spent facts nodes hq;
-        small = omega (arith, fetched-small f t laid sound (t .nodes) fetched spent nodes (omega arith) q (omega (arith, nodes .sets)));
+        sum = M-start (caseOf f t) (fact-head f t (s .laid) (s .sound)) (s .laid .ways-high) q charged entered fetched spent (s .facts) (s .nodes) hq;
+        small = omega (arith, fetched-small f t (s .laid) (s .sound) fetched spent (s .nodes) q hq);
       }
 
   module _ (a m x j : ℕ) (w : Flooring (caseOf f t) q a m x j) (h : j < t .ways) where
@@ -70,7 +68,7 @@ module _ (f : List ℕ) (t : Trailer) (laid : Laid f t) (sound : Sound (caseOf f
     next-M =
         let z : 10 * q + (j + 1) ≡ placeOf q (suc j) = omega arith in
         rw (z, w .sum)
-        (M-more (caseOf f t) (fact-head f t laid sound) (laid .ways-high) q entered charged fetched spent facts nodes hq j (omega (arith, laid .ways-high)))
+        (M-more (caseOf f t) (fact-head f t (s .laid) (s .sound)) (s .laid .ways-high) q charged entered fetched spent (s .facts) (s .nodes) hq j (omega (arith, s .laid .ways-high)))
 
     -- nothing is taken that is not there
     pub out-fits : out ≤ m + in-E
@@ -81,11 +79,11 @@ module _ (f : List ℕ) (t : Trailer) (laid : Laid f t) (sound : Sound (caseOf f
         omega (
           arith,
           w .small,
-          entered-small f t laid sound (t .facts) entered charged facts (omega arith) (10 * q + (j + 1)) (omega (arith, facts .limits, laid .ways-high)),
+          entered-small f t (s .laid) (s .sound) charged entered (s .facts) (10 * q + (j + 1)) (omega (arith, s .laid .ways-high)),
         )
 
     pub next-small : m + in-E - out ≤ 13194139530240
-    next-small = omega (arith, in-small, laid .ways-high)
+    next-small = omega (arith, in-small, s .laid .ways-high)
 
     pub flooring-more :
         (n y r : ℕ) → n ≡ m + in-E - out → y ≡ floorOf (t .ways) (j + 1) n → r ≡ min x y → Flooring (caseOf f t) q a n r (j + 1)

@@ -2,28 +2,21 @@
 use Prim.Native.Nat.{ℕ, suc, _+_, _≤_, _<_}
 use native.Mathlib.Omega.{arith}
 use native.Mathlib.Decide.{ℕ-discrete, decLe}
-use mathlib.Core.Path.{_≡_, refl, sym, _∙_, ap}
-use mathlib.Core.Bool.{Bool, true, false, cond, not, _&&_}
+use mathlib.Core.Path.{_≡_, refl, _∙_, ap}
+use mathlib.Core.Bool.{Bool, true, false, cond, not, _&&_, and-true, and-false}
 use mathlib.Core.List.{List}
 use borrow.Author.Tests.{le-leb, lt-leb, eq-eqb, ne-eqb}
 use lib.Dec.{eqb, leb}
 use lib.ListN.{length, getD}
 use Rattle.paper.specs.Lists.{sumTo}
+use Rattle.paper.proofs.Says.{says-le, says-eq, says-not, says-and, says-same}
 use Rattle.charge.specs.Tables.{Tallied, placeOf}
 use Rattle.charge.proofs.Sums.{sum-same, sum-both, sum-none}
 
 -- a place tells the set and the number
 place-is : (s x q l : ℕ) → x < 10 → l < 10 → eqb (placeOf s x) (placeOf q l) ≡ (eqb s q && eqb x l)
 place-is s x q l hx hl =
-    elim (ℕ-discrete s q) [
-      | yes e ↦
-          rw (e, eq-eqb q q refl)
-          (elim (ℕ-discrete x l) [
-            | yes d ↦ rw d (eq-eqb (placeOf q l) (placeOf q l) refl ∙ sym (eq-eqb l l refl))
-            | no d ↦ ne-eqb (placeOf q x) (placeOf q l) (omega arith) ∙ sym (ne-eqb x l d)
-          ])
-      | no e ↦ rw (ne-eqb s q e) (ne-eqb (placeOf s x) (placeOf q l) (omega arith))
-    ]
+    says-same (λ (h : placeOf s x ≡ placeOf q l). (omega arith, omega arith)) (λ (h : (s ≡ q) × (x ≡ l)). omega arith) (says-eq _ _) (says-and (says-eq s q) (says-eq x l))
 
 -- one more number: what it adds to those up to l, and takes from those past l
 one-more :
@@ -72,25 +65,13 @@ module _ (s x a : ℕ → ℕ) (q n : ℕ) where
         rw (here 9 (omega arith)) (sum-same _ _ n (λ i h. ap (λ (b : Bool). cond (eqb (s i) q && b) (a i) 0) (last (x i) (hx i h .1))))
       where
         last : (x : ℕ) → x < 10 → not (leb x 8) ≡ eqb x 9
-        last x h =
-            elim (decLe x 8) [
-              | yes k ↦ rw (le-leb x 8 k, ne-eqb x 9 (omega arith)) refl
-              | no k ↦ let z : x ≡ 9 = omega arith in rw (lt-leb x 8 (omega arith), eq-eqb x 9 z) refl
-            ]
+        last x h = says-same (λ (n : ¬ (x ≤ 8)). omega arith) (λ (e : x ≡ 9). omega arith) (says-not (says-le x 8)) (says-eq x 9)
 
   module _ (hx : (i : ℕ) → i < n → 1 ≤ x i) where
     pub up-none : upTo 0 ≡ 0
     unfolding upTo
-    up-none = sum-none _ n (λ i h. nothing (eqb (s i) q) (x i) (a i) (hx i h))
-      where
-        nothing : (b : Bool) (x a : ℕ) → 1 ≤ x → cond (b && leb x 0) a 0 ≡ 0
-        nothing true x a h = rw (lt-leb x 0 h) refl
-        nothing false x a h = refl
+    up-none = sum-none _ n (λ i h. rw (lt-leb (x i) 0 (hx i h), and-false) refl)
 
     pub past-all : beyond 0 ≡ sumTo (λ i. cond (eqb (s i) q) (a i) 0) n
     unfolding beyond
-    past-all = sum-same _ _ n (λ i h. all (eqb (s i) q) (x i) (a i) (hx i h))
-      where
-        all : (b : Bool) (x a : ℕ) → 1 ≤ x → cond (b && not (leb x 0)) a 0 ≡ cond b a 0
-        all true x a h = rw (lt-leb x 0 h) refl
-        all false x a h = refl
+    past-all = sum-same _ _ n (λ i h. rw (lt-leb (x i) 0 (hx i h), and-true) refl)

@@ -13,16 +13,13 @@ use lib.Seq.{getD-set-same, getD-set-other, drop-set-lt, ext-getD, getD-take, le
 use Rattle.paper.specs.Lists.{sumTo, table}
 use Rattle.paper.specs.Cases.{Case}
 use Rattle.paper.specs.Bounds.{factBound, setBound, totalBound, numberAt}
+use Rattle.paper.proofs.Says.{says-lt, says-same}
 use Rattle.paper.proofs.Sums.{Added, added-end}
 use Rattle.paper.proofs.Tables.{length-table, getD-table}
 use Rattle.charge.specs.Tables.{zeros, partAt, Part}
 
 ltb-more : (i n : ℕ) → i ≢ n → ltb i (n + 1) ≡ ltb i n
-ltb-more i n h =
-    elim (decLt i n) [
-      | yes l ↦ lt-ltb i (n + 1) (omega arith) ∙ sym (lt-ltb i n l)
-      | no l ↦ le-ltb i (n + 1) (omega arith) ∙ sym (le-ltb i n (omega arith))
-    ]
+ltb-more i n h = says-same (λ (l : i < n + 1). omega arith) (λ (l : i < n). omega arith) (says-lt _ _) (says-lt _ _)
 
 module _ (e : Case) (old : List ℕ) where
   -- all numbers are 0
@@ -30,6 +27,7 @@ module _ (e : Case) (old : List ℕ) where
   part-start new r q =
       let k : length zeros ≡ 321 = length-table _ 321 in
       rw q (record {
+        all = r;
         room = length-append zeros (drop 321 old) ∙ omega (arith, k, length-drop 321 old);
         is = λ i l. List·getD-append zeros (drop 321 old) 0 i (omega (arith, k)) ∙ getD-table _ 321 i 0 l ∙ nothing i;
         later = drop-at zeros (drop 321 old) 321 k;
@@ -44,27 +42,28 @@ module _ (e : Case) (old : List ℕ) where
       nothing i = unfold partAt in rw (le-ltb (i - 1) 0 (omega arith), le-ltb (i - 65) 0 (omega arith)) (pick (ltb i 1) (ltb i 65))
 
   pub part-self : (T Q I : ℕ) (new : List ℕ) → Part e T Q I old new → Part e T Q I new new
-  part-self T Q I new w = record { room = refl; is = w .is; later = refl }
+  part-self T Q I new w = record { all = omega (arith, w .all, w .room); room = refl; is = w .is; later = refl }
 
   -- one number is written
   part-more :
-      (T Q I T′ Q′ I′ k x : ℕ) (new : List ℕ) → 321 ≤ length old → k < 321 → x ≡ partAt e T′ Q′ I′ k
+      (T Q I T′ Q′ I′ k x : ℕ) (new : List ℕ) → k < 321 → x ≡ partAt e T′ Q′ I′ k
       → ((i : ℕ) → i ≢ k → partAt e T′ Q′ I′ i ≡ partAt e T Q I i) → Part e T Q I old new → Part e T′ Q′ I′ old (set new k x)
-  part-more T Q I T′ Q′ I′ k x new r h ex other w =
+  part-more T Q I T′ Q′ I′ k x new h ex other w =
       record {
+        all = w .all;
         room = length-set new k x ∙ w .room;
         is =
             λ i l.
             elim (ℕ-discrete i k) [
-              | yes q ↦ rw q (getD-set-same new k x 0 (omega (arith, w .room)) ∙ ex)
+              | yes q ↦ rw q (getD-set-same new k x 0 (omega (arith, w .all, w .room)) ∙ ex)
               | no q ↦ getD-set-other new k i x 0 q ∙ w .is i l ∙ sym (other i q)
             ];
         later = drop-set-lt 321 new k x h ∙ w .later;
       }
 
-  pub part-fact : (I x : ℕ) (new : List ℕ) → 321 ≤ length old → I < 256 → x ≡ factBound e (e .fact I) → Part e 0 0 I old new → Part e 0 0 (I + 1) old (set new (65 + I) x)
-  part-fact I x new r h ex w =
-      part-more 0 0 I 0 0 (I + 1) (65 + I) x new r (omega arith) (here ex) other w
+  pub part-fact : (I x : ℕ) (new : List ℕ) → I < 256 → x ≡ factBound e (e .fact I) → Part e 0 0 I old new → Part e 0 0 (I + 1) old (set new (65 + I) x)
+  part-fact I x new h ex w =
+      part-more 0 0 I 0 0 (I + 1) (65 + I) x new (omega arith) (here ex) other w
     where
       here : x ≡ factBound e (e .fact I) → x ≡ partAt e 0 0 (I + 1) (65 + I)
       here ex =
@@ -80,9 +79,9 @@ module _ (e : Case) (old : List ℕ) where
             | no l ↦ rw (ltb-more (i - 65) I (omega arith)) refl
           ]
 
-  pub part-set : (Q I x : ℕ) (new : List ℕ) → 321 ≤ length old → Q < 64 → x ≡ setBound e Q → Part e 0 Q I old new → Part e 0 (Q + 1) I old (set new (1 + Q) x)
-  part-set Q I x new r h ex w =
-      part-more 0 Q I 0 (Q + 1) I (1 + Q) x new r (omega arith) (here ex) other w
+  pub part-set : (Q I x : ℕ) (new : List ℕ) → Q < 64 → x ≡ setBound e Q → Part e 0 Q I old new → Part e 0 (Q + 1) I old (set new (1 + Q) x)
+  part-set Q I x new h ex w =
+      part-more 0 Q I 0 (Q + 1) I (1 + Q) x new (omega arith) (here ex) other w
     where
       here : x ≡ setBound e Q → x ≡ partAt e 0 (Q + 1) I (1 + Q)
       here ex =
@@ -99,11 +98,11 @@ module _ (e : Case) (old : List ℕ) where
           ]
 
   pub part-total :
-      (Q I b x : ℕ) (new : List ℕ) → 321 ≤ length old → Part e 0 Q I old new → Added (setBound e) b (e .sets) x Q → e .sets ≤ Q
+      (Q I b x : ℕ) (new : List ℕ) → Part e 0 Q I old new → Added (setBound e) b (e .sets) x Q → e .sets ≤ Q
       → Part e (totalBound e) (e .sets) I old (set new 0 x)
-  part-total Q I b x new r w a h =
+  part-total Q I b x new w a h =
       let z : Q ≡ e .sets = omega (arith, a .within) in
-      part-more 0 (e .sets) I (totalBound e) (e .sets) I 0 x new r (omega arith) (total (added-end (setBound e) b (e .sets) x Q a h .0)) other
+      part-more 0 (e .sets) I (totalBound e) (e .sets) I 0 x new (omega arith) (total (added-end (setBound e) b (e .sets) x Q a h .0)) other
       (subst (λ n. Part e 0 n I old new) z w)
     where
       total : x ≡ sumTo (setBound e) (e .sets) → x ≡ partAt e (totalBound e) (e .sets) I 0
@@ -113,11 +112,10 @@ module _ (e : Case) (old : List ℕ) where
       other i n = unfold partAt in rw (le-ltb i 1 (omega arith)) refl
 
   -- all are written
-  pub part-end : (mid new : List ℕ) → 321 ≤ length old → length mid ≡ length old → drop 321 mid ≡ drop 321 old → Part e (totalBound e) (e .sets) (e .facts) mid new → new ≡ table (numberAt e) 321 ++ drop 321 old
+  pub part-end : (mid new : List ℕ) → drop 321 mid ≡ drop 321 old → Part e (totalBound e) (e .sets) (e .facts) mid new → new ≡ table (numberAt e) 321 ++ drop 321 old
   unfolding numberAt partAt
-  part-end mid new r k d w =
-      let n : 321 ≤ length new = omega (arith, w .room) in
-      let m = length-take-le 321 new n in
+  part-end mid new d w =
+      let m = length-take-le 321 new (omega (arith, w .all, w .room)) in
       let h : take 321 new ≡ table (numberAt e) 321 =
       ext-getD 0 (take 321 new) (table (numberAt e) 321) (m ∙ sym (length-table (numberAt e) 321))
       (λ i l.

@@ -1,8 +1,8 @@
--- The laws of sums that the charge needs besides those of a loop that adds. Assumes nothing.
+-- The laws of sums that the charge needs besides those of a loop that adds, and of a loop's end. Assumes nothing.
 use Prim.Native.Nat.{ℕ, zero, suc, _+_, _-_, _*_, _≤_, _<_}
 use native.Mathlib.Omega.{arith}
 use native.Mathlib.Nat.{mul-suc}
-use mathlib.Core.Path.{_≡_, refl, sym, _∙_, ap, ap₂}
+use mathlib.Core.Path.{_≡_, refl, sym, _∙_, ap, ap₂, subst}
 use mathlib.Core.Bool.{Bool, true, false, cond}
 use Rattle.paper.specs.Lists.{sumTo}
 
@@ -22,9 +22,13 @@ unfolding sumTo
 sum-low F b zero h = omega arith
 sum-low F b (suc n) h = rw mul-suc (omega (arith, sum-low F b n (λ j l. h j (omega arith)), h n (omega arith)))
 
-pub part-low : (t : Bool) (x b : ℕ) → x ≤ b → cond t x 0 ≤ b
-part-low true x b h = h
-part-low false x b h = omega arith
+pub cond-low : (t : Bool) {x y b : ℕ} → x ≤ b → y ≤ b → cond t x y ≤ b
+cond-low true h k = h
+cond-low false h k = k
+
+-- a loop that counts to n ends at n
+pub at-end : (P : ℕ → Type 0) (i n : ℕ) → i ≤ n → n ≤ i → P i → P n
+at-end P i n l h p = let z : i ≡ n = omega arith in subst P z p
 
 -- a sum whose first or last parts are 0 may leave them out
 module _ (F : ℕ → ℕ) where

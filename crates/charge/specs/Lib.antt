@@ -1,3 +1,4 @@
 pub mod Placed
 pub mod Ready
+pub mod Summed
 pub mod Tables

@@ -4,7 +4,7 @@ use mathlib.Core.Path.{_≡_}
 use mathlib.Core.Bool.{Bool, cond, not, _&&_}
 use mathlib.Core.List.{List}
 use lib.Dec.{eqb, ltb, leb}
-use lib.ListN.{length, getD, drop}
+use lib.ListN.{length, getD, set, drop}
 use Rattle.paper.specs.declared.Trailer.{Trailer}
 use Rattle.paper.specs.Lists.{sumTo, lowestTo, table}
 use Rattle.paper.specs.Machines.{none}
@@ -12,19 +12,39 @@ use Rattle.paper.specs.Cases.{Case}
 use Rattle.paper.specs.Graphs.{count, entries, entriesOf}
 use Rattle.paper.specs.Bounds.{covers, factBound, setBound}
 use Rattle.paper.specs.Files.{u16At, factAt, factEnd, caseOf}
-use Rattle.charge.specs.declared.Cost.{Cost}
+use Rattle.charge.specs.declared.facts.Cost.{Cost}
 
 -- Element j of the list is the sum of the amounts below n whose key is j.
 pub record Tallied (key amount : ℕ → ℕ) (n : ℕ) (l : List ℕ) : Type 0 where
   pub is : (j : ℕ) → j < length l → getD l j 0 ≡ sumTo (λ i. cond (eqb (key i) j) (amount i) 0) n
 
--- the 321 numbers before any is written
-abbrev pub zeros : List ℕ
-zeros = table (λ i. 0) 321
+-- x is added at place k
+abbrev pub plus : List ℕ → ℕ → ℕ → List ℕ
+plus l k x = set l k (getD l k 0 + x)
 
 -- Ten places for each set.
 abbrev pub placeOf : ℕ → ℕ → ℕ
-placeOf q x = 10 * q + x
+placeOf q l = 10 * q + l
+
+-- The first n are added: the amounts x by set s, and the amounts y by set and limit l.
+pub record Grouped (s l x y : ℕ → ℕ) (n : ℕ) (sets limits : List ℕ) : Type 0 where
+  pub sets-room : 64 ≤ length sets
+  pub limits-room : 640 ≤ length limits
+  pub by-set : Tallied s x n sets
+  pub by-limit : Tallied (λ i. placeOf (s i) (l i)) y n limits
+
+-- There is room for x more at set q, and for y more at limit l.
+pub record Open (sets limits : List ℕ) (q l x y : ℕ) : Type 0 where
+  pub set : q < 64
+  pub limit : l < 10
+  pub sets-room : 64 ≤ length sets
+  pub limits-room : 640 ≤ length limits
+  pub set-fits : getD sets q 0 + x ≤ 18446744073709551615
+  pub limit-fits : getD limits (placeOf q l) 0 + y ≤ 18446744073709551615
+
+-- the 321 numbers before any is written
+abbrev pub zeros : List ℕ
+zeros = table (λ i. 0) 321
 
 module _ (e : Case) where
   -- loop w is entered so often; the whole graph, 65,535, once
@@ -68,6 +88,11 @@ module _ (e : Case) where
     pub lasts : (h : ℕ) → h < 1024 → getD chain h 0 ≡ lastIn h n
     pub befores : (v : ℕ) → v < n → getD chain (1024 + v) 0 ≡ lastIn (bucket v) v
 
+  -- a limit for each node; 9 where no fact covers it
+  pub record Limits (cover : List ℕ) : Type 0 where
+    pub room : 1024 ≤ length cover
+    pub low : (v : ℕ) → v < e .nodes → getD cover v 0 ≤ 9
+
   -- the limits of the nodes that pass are lowered to l
   pub record Lowered (test : ℕ → Bool) (l : ℕ) (old new : List ℕ) : Type 0 where
     pub room : length new ≡ length old
@@ -75,22 +100,16 @@ module _ (e : Case) where
 
   -- the list holds each node's least limit of the first n facts that cover it
   pub record Covered (n : ℕ) (cover : List ℕ) : Type 0 where
-    pub nodes : 1024 ≤ length cover
+    pub room : 1024 ≤ length cover
     pub lowest : (v : ℕ) → v < e .nodes → getD cover v 0 ≡ lowestLimit n v
 
-  -- the first n facts are added: E by set and limit, and the bounds by set
-  pub record FactsAdded (n : ℕ) (entered charged : List ℕ) : Type 0 where
-    pub limits : 640 ≤ length entered
-    pub sets : 64 ≤ length charged
-    pub entries-by : Tallied (λ i. placeOf (setOfFact i) (e .fact i .limit)) (λ i. entries e (e .fact i)) n entered
-    pub bounds-by : Tallied setOfFact (λ i. factBound e (e .fact i)) n charged
+  -- the first n facts are added: their bounds by set, and E by set and limit
+  abbrev pub FactsAdded : ℕ → List ℕ → List ℕ → Type 0
+  FactsAdded n charged entered = Grouped setOfFact (λ i. e .fact i .limit) (λ i. factBound e (e .fact i)) (λ i. entries e (e .fact i)) n charged entered
 
   -- the first n nodes are added: their counts by set, and by set and least limit
-  pub record NodesAdded (n : ℕ) (fetched spent : List ℕ) : Type 0 where
-    pub sets : 64 ≤ length fetched
-    pub limits : 640 ≤ length spent
-    pub all : Tallied setOfNode weight n fetched
-    pub by-limit : Tallied (λ v. placeOf (setOfNode v) (lowestLimit (e .facts) v)) weight n spent
+  abbrev pub NodesAdded : ℕ → List ℕ → List ℕ → Type 0
+  NodesAdded n fetched spent = Grouped setOfNode (lowestLimit (e .facts)) weight weight n fetched spent
 
   -- number i of the 321 while they are written: the total is T, the first Q sets and the first I facts have their bounds
   unfoldable pub partAt : ℕ → ℕ → ℕ → ℕ → ℕ
@@ -99,16 +118,18 @@ module _ (e : Case) where
       (cond (ltb i 65) (cond (ltb (i - 1) Q) (setBound e (i - 1)) 0) (cond (ltb (i - 65) I) (factBound e (e .fact (i - 65))) 0))
 
   pub record Part (T Q I : ℕ) (old new : List ℕ) : Type 0 where
+    pub all : 321 ≤ length old
     pub room : length new ≡ length old
     pub is : (i : ℕ) → i < 321 → getD new i 0 ≡ partAt T Q I i
     pub later : drop 321 new ≡ drop 321 old
 
--- what the fact at p costs
-pub record Costs (f : List ℕ) (t : Trailer) (p : ℕ) (r : Cost) : Type 0 where
-  pub block : r .block ≡ u16At f (p + 2)
-  pub limit : r .limit ≡ u16At f (p + 4)
-  pub entered : r .entries ≡ entries (caseOf f t) (factAt f p)
-  pub entered-low : r .entries ≤ 4294967295
-  pub charged : r .bound ≡ factBound (caseOf f t) (factAt f p)
-  pub charged-low : r .bound ≤ 4402341477375
-  pub next : r .next ≡ factEnd f t p
+-- what the fact at p costs, and where it ends
+unfoldable pub costOf : List ℕ → Trailer → ℕ → Cost
+costOf f t p =
+    record {
+      block = u16At f (p + 2);
+      limit = u16At f (p + 4);
+      entries = entries (caseOf f t) (factAt f p);
+      bound = factBound (caseOf f t) (factAt f p);
+      next = factEnd f t p;
+    }

@@ -1,7 +1,7 @@
 -- A row's blocks as a list. Assumes nothing.
-use Prim.Native.Nat.{ℕ, zero, suc, _+_, _≤_, _<_}
+use Prim.Native.Nat.{ℕ, zero, suc, _<_}
 use native.Mathlib.Omega.{arith}
-use mathlib.Core.Path.{_≡_, refl, sym, _∙_, ap}
+use mathlib.Core.Path.{_≡_, refl, sym}
 use mathlib.Core.List.{List, [], _∷_, List·Memᴰ, List·Memᴰ·head, List·Memᴰ·tail, List·Memᴰ·not-nil}
 use lib.ListN.{length, getD}
 use Rattle.paper.specs.Lists.{table}
@@ -15,13 +15,13 @@ abbrev pub blocks : Row → List ℕ
 blocks r = table (r .slot) (held r)
 
 -- lists by index
-pub table-mem : (g : ℕ → ℕ) (n i : ℕ) → i < n → List·Memᴰ (g i) (table g n)
+table-mem : (g : ℕ → ℕ) (n i : ℕ) → i < n → List·Memᴰ (g i) (table g n)
 unfolding table
 table-mem g zero i h = absurd (omega arith)
 table-mem g (suc n) zero h = List·Memᴰ·head refl
 table-mem g (suc n) (suc i) h = List·Memᴰ·tail (table-mem (λ k. g (suc k)) n i (omega arith))
 
-pub mem-table : (g : ℕ → ℕ) (n x : ℕ) → List·Memᴰ x (table g n) → (i : ℕ) × (i < n) × (g i ≡ x)
+mem-table : (g : ℕ → ℕ) (n x : ℕ) → List·Memᴰ x (table g n) → (i : ℕ) × (i < n) × (g i ≡ x)
 unfolding table
 mem-table g zero x m = absurd (List·Memᴰ·not-nil m)
 mem-table g (suc n) x (List·Memᴰ·head p) = (0, omega arith, sym p)
@@ -31,7 +31,7 @@ rises : (g : ℕ → ℕ) (n : ℕ) → ((k : ℕ) → suc k < n → g k < g (su
 rises g n h zero l = h 0 l
 rises g n h (suc i) l = omega (arith, rises g n h i (omega arith), h (suc i) l)
 
-pub table-rising : (g : ℕ → ℕ) (n : ℕ) → ((k : ℕ) → suc k < n → g k < g (suc k)) → Rising (table g n)
+table-rising : (g : ℕ → ℕ) (n : ℕ) → ((k : ℕ) → suc k < n → g k < g (suc k)) → Rising (table g n)
 unfolding table
 table-rising g zero h = tt
 table-rising g (suc n) h = (
@@ -44,6 +44,9 @@ blocks-rising r h = table-rising (r .slot) (held r) h
 
 pub holds-mem : (r : Row) (x : ℕ) → Holds r x → List·Memᴰ x (blocks r)
 holds-mem r x h = rw (h .2) at (table-mem (r .slot) (held r) (h .0) (h .1))
+
+pub mem-holds : (r : Row) (x : ℕ) → List·Memᴰ x (blocks r) → Holds r x
+mem-holds r x m = mem-table (r .slot) (held r) x m
 
 -- the list's own elements by index
 pub at-mem : (l : List ℕ) (k : ℕ) → k < length l → List·Memᴰ (getD l k none) l

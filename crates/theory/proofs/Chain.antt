@@ -16,7 +16,7 @@ module _ (f : ℕ → ℕ → ℕ) where
   unfolding chain
   chain-taken test n h = rw h refl
 
-  pub chain-passed : (test : ℕ → Bool) (n : ℕ) → test n ≡ false → chain f test (suc n) ≡ chain f test n
+  chain-passed : (test : ℕ → Bool) (n : ℕ) → test n ≡ false → chain f test (suc n) ≡ chain f test n
   unfolding chain
   chain-passed test n h = rw h refl
 

@@ -11,7 +11,7 @@ module _ (e : Case) (t : Fact) where
   abbrev pub Clear : ℕ → ℕ → Type 0
   Clear = Way (EdgeInside e t) (λ x. e .block x ≢ t .block)
 
-  abbrev pub Free : List ℕ → Type 0
+  abbrev Free : List ℕ → Type 0
   Free m = (x : ℕ) → List·Memᴰ x m → e .block x ≢ t .block
 
   clear : {u v : ℕ} (m : List ℕ) → WalkInside e t u m v → Free m → Clear u v

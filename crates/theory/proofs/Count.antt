@@ -1,8 +1,9 @@
 -- How often a block stands in a list. Membership is a number, `1 ≤ cnt x l`, so that arithmetic does the reasoning about lists. Assumes nothing.
-use Prim.Native.Nat.{ℕ, _+_}
-use mathlib.Core.Path.{_≡_}
+use Prim.Native.Nat.{ℕ, _+_, _≤_}
+use mathlib.Core.Path.{_≡_, sym}
 use mathlib.Core.Logic.{_≢_}
-use mathlib.Core.List.{List, [], _∷_, _++_}
+use mathlib.Core.List.{List, [], _∷_, _++_, List·Memᴰ, List·Memᴰ·head, List·Memᴰ·tail}
+use native.Mathlib.Decide.{ℕ-discrete}
 use native.Mathlib.Omega.{arith}
 use borrow.Author.Tests.{eq-eqb, ne-eqb}
 use lib.Dec.{eqb}
@@ -30,3 +31,15 @@ pub cnt-append : (x : ℕ) (l r : List ℕ) → cnt x (l ++ r) ≡ cnt x l + cnt
 unfolding sum
 cnt-append x [] r = omega arith
 cnt-append x (y ∷ l) r = omega (arith, cnt-append x l r)
+
+-- membership of lists, by count
+pub mem-cnt : {x : ℕ} {l : List ℕ} → List·Memᴰ x l → 1 ≤ cnt x l
+unfolding sum
+mem-cnt (List·Memᴰ·head p) = omega (arith, one-yes _ _ (sym p))
+mem-cnt (List·Memᴰ·tail m) = omega (arith, mem-cnt m)
+
+pub cnt-mem : (x : ℕ) (l : List ℕ) → 1 ≤ cnt x l → List·Memᴰ x l
+unfolding sum
+cnt-mem x [] h = absurd (omega arith)
+cnt-mem x (y ∷ l) h =
+    elim (ℕ-discrete y x) [ yes p ↦ List·Memᴰ·head (sym p) | no q ↦ List·Memᴰ·tail (cnt-mem x l (omega (arith, one-no x y q))) ]

@@ -15,11 +15,9 @@ use Rattle.paper.specs.Cases.{Case, inside}
 use Rattle.paper.specs.Graphs.{around, count, entriesOf}
 use Rattle.paper.specs.Walks.{Walk, visits, KeepsLimits}
 use Rattle.paper.proofs.Least.{None, Found, look}
-use Rattle.paper.proofs.Says.{Says, holds, fails, says-lt, says-le, says-and}
+use Rattle.paper.proofs.Says.{Says, holds, fails, says-lt, says-le, says-and, says-false, says-same, says-is}
 use Rattle.paper.proofs.Meaning.{In, SoundGraph}
 use Rattle.paper.proofs.GraphLaws.{inside-says, around-says}
-use Rattle.paper.proofs.Says.{says-is}
-use Rattle.theory.proofs.Tests.{is-false, same-test}
 use Rattle.theory.proofs.Steps.{Over, earlier, ends-in}
 use Rattle.theory.proofs.Tally.{stays, arrivals}
 use Rattle.theory.proofs.Arrivals.{stays-arrivals, visits-arrivals, arrivals-header, arrivals-once}
@@ -38,9 +36,10 @@ module _ (e : Case) (s : SoundGraph e) (w : List ℕ) (k : Walk e w) (f : ℕ �
   -- the chain of the loops over a header is, as far as that loop, the chain of the loops over what it holds
   same-over : (t j : ℕ) → j < e .loops → In (e .loop j) t → (i : ℕ) → i < j → over (e .loop j .first) (e .loop i) ≡ over t (e .loop i)
   same-over t j m o i h =
-      same-test (over-says (e .loop j .first) (e .loop i)) (over-says t (e .loop i))
-      (λ q. omega (arith, q, ends-in e s i j (omega arith) m q))
-      (λ q. omega (arith, q, s .rises i j h m))
+      says-same
+      (λ (q : Over (e .loop j .first) (e .loop i)). omega (arith, q, ends-in e s i j (omega arith) m q))
+      (λ (q : Over t (e .loop i)). omega (arith, q, s .rises i j h m))
+      (over-says (e .loop j .first) (e .loop i)) (over-says t (e .loop i))
 
   -- a header's visits, where its forward arrivals keep to their chain
   header-le :
@@ -66,7 +65,7 @@ module _ (e : Case) (s : SoundGraph e) (w : List ℕ) (k : Walk e w) (f : ℕ �
           (header-le t n h (omega arith) (ih (e .loop n .first) (λ j m q. earlier e s j n m h (q .0))))
       go (fails q) ih = ih t λ j m o. elim (ℕ-discrete j n) [ yes p ↦ absurd (q (rw (← p) o)) | no p ↦ omega (arith, low j m o) ]
 
-  pub visits-le-chain : (v : ℕ) → visits v w ≤ chain f (λ j. inside (e .loop j) v) (e .loops)
+  visits-le-chain : (v : ℕ) → visits v w ≤ chain f (λ j. inside (e .loop j) v) (e .loops)
   visits-le-chain v = ⊎-elim plain header (look (λ j. eqb (e .loop j .first) v) (e .loops))
     where
       same :
@@ -74,7 +73,7 @@ module _ (e : Case) (s : SoundGraph e) (w : List ℕ) (k : Walk e w) (f : ℕ �
       same n ne =
           chain-same f (λ j. over v (e .loop j)) (λ j. inside (e .loop j) v) n λ j q.
           let z = ne j q in
-          same-test (over-says v (e .loop j)) (inside-says (e .loop j) v) (λ o. omega (arith, o)) (λ i. omega (arith, i))
+          says-same (λ (o : Over v (e .loop j)). omega (arith, o)) (λ (i : In (e .loop j) v). omega (arith, i)) (over-says v (e .loop j)) (inside-says (e .loop j) v)
 
       plain : None (λ j. eqb (e .loop j .first) v) (e .loops) → visits v w ≤ chain f (λ j. inside (e .loop j) v) (e .loops)
       plain no-header =
@@ -103,16 +102,17 @@ module _ (e : Case) (s : SoundGraph e) (w : List ℕ) (k : Walk e w) (f : ℕ �
               last-taken : chain f test (e .loops) ≡ f j (chain f (λ i. over v (e .loop i)) j)
               last-taken =
                   ap (chain f test) all
-                  ∙ chain-end f test (suc j) (e .loops - suc j) (λ i a b. is-false (inside-says (e .loop i) v) (λ o. omega (arith, s .rises j i a (omega arith), o)))
+                  ∙ chain-end f test (suc j) (e .loops - suc j) (λ i a b. says-false (inside-says (e .loop i) v) .1 (λ o. omega (arith, s .rises j i a (omega arith), o)))
                   ∙ chain-taken f test j (says-is (inside-says (e .loop j) v) (omega (arith, s .fits j m)))
                   ∙ ap (f j) (sym (same j (λ i q x. omega (arith, s .rises i j q m))))
 
-  pub stays-le-chain : (j : ℕ) → j < e .loops → stays (e .loop j) w ≤ chain f (λ i. around (e .loop j) (e .loop i)) (e .loops)
+  stays-le-chain : (j : ℕ) → j < e .loops → stays (e .loop j) w ≤ chain f (λ i. around (e .loop j) (e .loop i)) (e .loops)
   stays-le-chain j m =
       rw (← chain-same f (λ i. over (e .loop j .first) (e .loop i)) (λ i. around (e .loop j) (e .loop i)) (e .loops) λ i n.
-      same-test (over-says (e .loop j .first) (e .loop i)) (around-says (e .loop j) (e .loop i))
-      (λ o. (o .0, ends-in e s i j n m o))
-      (λ o. omega (arith, o, s .fits j m)))
+      says-same
+      (λ (o : Over (e .loop j .first) (e .loop i)). (o .0, ends-in e s i j n m o))
+      (λ (o : (e .loop i .first < e .loop j .first) × (e .loop j .last ≤ e .loop i .last)). omega (arith, o, s .fits j m))
+      (over-says (e .loop j .first) (e .loop i)) (around-says (e .loop j) (e .loop i)))
       (le-trans (stays-arrivals e s w k j m) (arrivals-le-chain (e .loops) (e .loop j .first) (omega arith) (λ i n o. n)))
 
 module _ (e : Case) (s : SoundGraph e) (w : List ℕ) (k : Walk e w) (kept : KeepsLimits e w) where

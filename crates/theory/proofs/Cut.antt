@@ -10,8 +10,7 @@ use lib.ListN.{length, take, drop, take-append-drop}
 use lib.Seq.{length-take-le}
 use Rattle.paper.specs.Lists.{bit}
 use Rattle.paper.specs.Machines.{lineOf, hits, pushed, oneDown}
-use Rattle.paper.proofs.Says.{Says, holds, fails, says-lt}
-use Rattle.paper.proofs.Says.{says-as}
+use Rattle.paper.proofs.Says.{Says, holds, fails, says-lt, says-as}
 use Rattle.theory.proofs.Count.{cnt}
 use Rattle.theory.proofs.Ideal.{miss, shift, lru, fifo}
 use Rattle.theory.proofs.Lines.{line-first, line-next, line-in, in-line, line-out, fifo-in, fifo-out}

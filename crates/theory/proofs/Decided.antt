@@ -1,7 +1,7 @@
 -- What walks gather is decided, and listed. Assumes nothing.
-use Prim.Native.Nat.{ℕ, zero, suc, _+_, _≤_, _<_, _%_}
+use Prim.Native.Nat.{ℕ, suc, _≤_, _<_, _%_}
 use native.Mathlib.Omega.{arith}
-use native.Mathlib.Decide.{ℕ-discrete, decLe, map-dec}
+use native.Mathlib.Decide.{ℕ-discrete, map-dec}
 use mathlib.Core.Path.{_≡_, refl}
 use mathlib.Core.Logic.{_≢_, _↔_, Dec·and, Dec·not}
 use mathlib.Core.Bool.{Bool, true, false}
@@ -10,7 +10,7 @@ use lib.ListN.{length}
 use Rattle.paper.specs.Cases.{Fact, Case, inside, scopeOf}
 use Rattle.paper.specs.Walks.{Edge}
 use Rattle.paper.specs.Demands.{Rising, EdgeInside, Other, Gathered, FewGathered}
-use Rattle.paper.proofs.Says.{Says, holds, fails, says-true}
+use Rattle.paper.proofs.Says.{says-true}
 use Rattle.paper.proofs.GraphLaws.{inside-says}
 use Rattle.theory.proofs.Reach.{last, next, join, way?, some?, Dec·and₃}
 use Rattle.theory.proofs.Sorted.{no-longer, Those, those}

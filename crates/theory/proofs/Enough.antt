@@ -2,14 +2,13 @@
 use Prim.Native.Nat.{ℕ, suc, _≤_, _<_}
 use native.Mathlib.Omega.{arith}
 use native.Mathlib.Decide.{decLt}
-use mathlib.Core.Path.{_≡_, refl, sym, _∙_}
+use mathlib.Core.Path.{_≡_, refl}
 use mathlib.Core.Logic.{_≢_}
 use mathlib.Core.Bool.{true}
 use mathlib.Core.List.{List, List·Memᴰ}
 use lib.ListN.{length, getD, List·getD-eq-default}
 use Rattle.paper.specs.Machines.{none}
 use Rattle.paper.specs.Cases.{Row, Fact, Case, inside, scopeOf}
-use Rattle.paper.specs.Facts.{held}
 use Rattle.paper.specs.Demands.{Rising, EdgeInside, Other, Gathered, FewGathered}
 use Rattle.paper.proofs.RowLaws.{held-set, held-other}
 use Rattle.paper.proofs.Meaning.{Holds, SoundRow, Carried, EdgeRule}
@@ -17,10 +16,10 @@ use Rattle.theory.proofs.Blocks.{at-mem, mem-at, rising-at}
 use Rattle.theory.proofs.Decided.{Reached, reached?, reached-first, reached-on, gathered, gathered-rising, gathered-iff, gathered-on, gathered-new, gathered-most, few-gathered}
 
 -- a set as a row, and a row without blocks
-abbrev pub setRow : List ℕ → Row
+abbrev setRow : List ℕ → Row
 setRow l = record { number = length l; slot = λ k. getD l k none }
 
-abbrev pub plainRow : ℕ → Row
+abbrev plainRow : ℕ → Row
 plainRow n = record { number = n; slot = λ k. none }
 
 module _ (e : Case) (t : Fact) where

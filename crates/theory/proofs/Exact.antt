@@ -1,21 +1,21 @@
 -- Demand 3, second half: evidence that the tool accepts exists exactly when few enough blocks can have gathered. Assumes nothing.
 use Prim.Native.Nat.{ℕ, zero, suc, _+_, _*_, _-_, _≤_, _<_}
 use native.Mathlib.Omega.{arith}
-use mathlib.Core.Path.{_≡_, refl, sym, _∙_, ap, subst}
-use mathlib.Core.Logic.{_≢_, _↔_}
-use mathlib.Core.Bool.{true, false}
+use mathlib.Core.Path.{_≡_, refl, sym, _∙_, subst}
+use mathlib.Core.Logic.{_↔_}
+use mathlib.Core.Bool.{true}
 use mathlib.Core.List.{List, [], _∷_, List·Memᴰ·head, List·Memᴰ·tail}
-use lib.ListN.{length, getD}
+use lib.ListN.{getD}
 use Rattle.paper.specs.declared.Loop.{Loop}
-use Rattle.paper.specs.Cases.{Row, Fact, Case, inside, size, scopeOf, rowOf}
-use Rattle.paper.specs.Files.{u16At, nodeAt, rowAt, trailerOf, caseOf, readCase}
+use Rattle.paper.specs.Cases.{Row, Fact, Case, inside, size, scopeOf}
+use Rattle.paper.specs.Files.{u16At, nodeAt, rowAt, caseOf, readCase}
 use Rattle.paper.specs.Demands.{Bytes, Gathered, FewGathered, withRows, Evidence, EvidenceExact}
 use Rattle.paper.proofs.Says.{says-true, says-is}
 use Rattle.paper.proofs.States.{says-range}
 use Rattle.paper.proofs.GraphLaws.{inside-says}
 use Rattle.paper.proofs.FactLaws.{head-sound, evidence-law}
 use Rattle.paper.proofs.VerdictLaws.{ten-kept}
-use Rattle.paper.proofs.Meaning.{In, SoundRow, SoundEvidence}
+use Rattle.paper.proofs.Meaning.{In, SoundEvidence}
 use Rattle.theory.proofs.SameRow.{Same, same-sound, same-rule}
 use Rattle.theory.proofs.RowBytes.{written, written-length, written-small, written-row}
 use Rattle.theory.proofs.Needed.{sound-few}

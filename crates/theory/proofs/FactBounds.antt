@@ -52,7 +52,7 @@ module _ (k n : ℕ) (h : 0 < k) (i : 0 < n) where
 
 -- What keeps every law of the machine for b and l, at most N in all, keeps the table's line.
 module _ (k b l E N : ℕ) (real : b ≢ none) (low : 1 ≤ l) (high : l ≤ k) where
-  pub bounded :
+  bounded :
       (P : Policy) → fewest P ≤ k → (F : ℕ) → ((c a d : ℕ) → Law (ideal P k) b (l - 1) c a d → c * F ≤ a * E + d * N) → F ≤ N → F ≤ boundOf (number P) k l E N
   unfolding boundOf
   bounded Lru o F by most = omega (arith, by 1 1 0 (lru-law k b (l - 1) (omega arith)))

@@ -81,7 +81,7 @@ module _ (e : Case) (s : Sound e) (w : List ℕ) (k : Walk e w) (kept : KeepsLim
 
   module _ (M : Machine) (t : Fact) (h : SoundFact e t) (r a d : ℕ) (L : Law M (t .block) (t .limit - 1) r a d) where
     -- whatever legal states the set is put into while nothing is known since b
-    pub taken-bound : (σ : ℕ → M .State) → Taken e M t false w σ → r * missed e M t w σ ≤ a * entries e t + d * counts e (covers e t)
+    taken-bound : (σ : ℕ → M .State) → Taken e M t false w σ → r * missed e M t w σ ≤ a * entries e t + d * counts e (covers e t)
     taken-bound σ z =
         omega (
           arith,

@@ -10,8 +10,7 @@ use lib.Seq.{length-take-le, getD-drop, getD-append-add}
 use Rattle.paper.specs.declared.SetState.{SetState}
 use Rattle.paper.specs.Machines.{none, lineOf}
 use Rattle.paper.specs.Runs.{LegalSet}
-use Rattle.paper.proofs.Says.{says-true}
-use Rattle.paper.proofs.Says.{says-is}
+use Rattle.paper.proofs.Says.{says-true, says-is}
 use Rattle.paper.proofs.States.{Legal, LegalBits, Distinct, says-legal, line-at}
 use Rattle.theory.proofs.Count.{sum, cnt, one-yes, one-no, cnt-append}
 use Rattle.theory.proofs.Ideal.{Apart, LegalLines}

@@ -1,22 +1,20 @@
 -- Sound evidence has what walks gather. Assumes nothing.
-use Prim.Native.Nat.{ℕ, suc, _≤_, _<_}
+use Prim.Native.Nat.{ℕ, _≤_, _<_}
 use native.Mathlib.Omega.{arith}
-use native.Mathlib.Decide.{ℕ-discrete}
-use mathlib.Core.Path.{_≡_, refl, sym, _∙_}
-use mathlib.Core.Logic.{_≢_, _⊎_, inl, inr, ⊎-elim}
+use mathlib.Core.Path.{_≡_, refl}
+use mathlib.Core.Logic.{_≢_}
 use mathlib.Core.Bool.{true}
 use mathlib.Core.List.{List, [], _∷_, List·Memᴰ, List·Memᴰ·head}
 use lib.ListN.{length}
-use Rattle.paper.specs.Lists.{table}
 use Rattle.paper.specs.Cases.{Row, Fact, Case, inside, scopeOf, rowOf}
 use Rattle.paper.specs.Facts.{held}
 use Rattle.paper.specs.Demands.{Rising, EdgeInside, Other, Gathered, FewGathered}
 use Rattle.paper.proofs.Says.{says-true}
 use Rattle.paper.proofs.GraphLaws.{inside-says}
-use Rattle.paper.proofs.RowLaws.{held-set, held-other}
+use Rattle.paper.proofs.RowLaws.{held-set}
 use Rattle.paper.proofs.Tables.{length-table}
 use Rattle.paper.proofs.Meaning.{In, Holds, SoundRow, EdgeRule, SoundEvidence}
-use Rattle.theory.proofs.Reach.{Way, last, next}
+use Rattle.theory.proofs.Reach.{last, next}
 use Rattle.theory.proofs.Clear.{Clear, split}
 use Rattle.theory.proofs.Sorted.{no-longer}
 use Rattle.theory.proofs.Blocks.{blocks, blocks-rising, holds-mem}

@@ -31,7 +31,7 @@ paid-visits v (u ∷ w) = omega (arith, one (eqb u v), paid-visits v w)
     one false = refl
 
 module _ (e : Case) (s : SoundGraph e) (nodes : 1 ≤ e .nodes) where
-  pub low : (p : Option ℕ) (v : ℕ) → Step e p v → v < e .nodes
+  low : (p : Option ℕ) (v : ℕ) → Step e p v → v < e .nodes
   low none v d = omega arith
   low (some u) v d = s .ends u v d .1
 

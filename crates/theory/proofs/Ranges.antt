@@ -1,5 +1,5 @@
 -- What a sound case says of its cache: the policy is offered at that many ways, and there are 1 to 64 sets. Assumes nothing.
-use Prim.Native.Nat.{ℕ, _≤_, _<_}
+use Prim.Native.Nat.{_≤_, _<_}
 use mathlib.Core.Path.{_≡_}
 use mathlib.Core.Bool.{true}
 use Rattle.paper.specs.Machines.{offered}

@@ -1,6 +1,6 @@
 -- FIFO with k lines against LRU with l lines that start empty: k - l + 1 times FIFO's misses are at most k times LRU's, for each access and what is saved. Assumes nothing.
 use Prim.Native.Nat.{ℕ, zero, suc, _+_, _*_, _≤_}
-use mathlib.Core.Path.{_≡_, refl, sym, ap}
+use mathlib.Core.Path.{_≡_, refl, ap}
 use mathlib.Core.Logic.{_≢_}
 use mathlib.Core.Bool.{cond}
 use mathlib.Core.List.{List, [], _∷_}
@@ -8,10 +8,10 @@ use native.Mathlib.Decide.{ℕ-discrete, decLe}
 use native.Mathlib.Omega.{arith}
 use borrow.Author.Tests.{eq-eqb, ne-eqb}
 use lib.Dec.{eqb}
-use lib.ListN.{length, replicate, length-replicate}
+use lib.ListN.{length, replicate}
 use Rattle.paper.specs.Machines.{none, lineOf}
-use Rattle.theory.proofs.Count.{cnt, sum, one-no}
-use Rattle.theory.proofs.Ideal.{miss, shift, lru, fifo, LegalLines}
+use Rattle.theory.proofs.Count.{cnt, sum}
+use Rattle.theory.proofs.Ideal.{miss, shift, lru, fifo}
 use Rattle.theory.proofs.Lines.{length-shift, line-le, line-front, line-cons, line-shift, sum-shift, sum-shift-in, fifo-in, fifo-out, times-in, times-out, line-out}
 
 -- what a block of LRU's lines weighs: its line in FIFO's, or k where it is not there
@@ -79,12 +79,3 @@ pub sum-empty : (s : List ℕ) (m : ℕ) → sum (weight s) (replicate m none) �
 unfolding sum weight
 sum-empty s zero = refl
 sum-empty s (suc m) = omega (arith, sum-empty s m)
-
--- lines that hold no block are legal
-pub empty-lines : (m : ℕ) → LegalLines m (replicate m none)
-unfolding sum
-empty-lines m = record { apart = λ x n. go x n m; lines-k = length-replicate m none }
-  where
-    go : (x : ℕ) → x ≢ none → (m : ℕ) → cnt x (replicate m none) ≤ 1
-    go x n zero = omega arith
-    go x n (suc m) = omega (arith, one-no x none (λ p. n (sym p)), go x n m)

@@ -1,17 +1,17 @@
 -- Rows as bytes, 16 a row, and back. Assumes nothing.
-use Prim.Native.Nat.{ℕ, zero, suc, _+_, _*_, _-_, _/_, _%_, _≤_, _<_}
+use Prim.Native.Nat.{ℕ, zero, suc, _+_, _*_, _/_, _%_, _<_}
 use native.Mathlib.Omega.{arith}
-use mathlib.Core.Path.{_≡_, refl, sym, _∙_, ap}
+use mathlib.Core.Path.{_≡_, refl, _∙_, ap}
 use mathlib.Core.Logic.{⊎-elim}
-use mathlib.Core.List.{List, [], _∷_, List·Memᴰ, List·Memᴰ·cases-cons, List·Memᴰ·not-nil}
-use lib.ListN.{length, getD}
+use mathlib.Core.List.{List, [], _∷_, List·Memᴰ·cases-cons, List·Memᴰ·not-nil}
+use lib.ListN.{length}
 use Rattle.paper.specs.Cases.{Row}
 use Rattle.paper.specs.Files.{u16At, rowAt}
 use Rattle.paper.specs.Demands.{Bytes}
 use Rattle.theory.proofs.SameRow.{Same}
 
 -- the words w 0, w 1, … as bytes, n of them
-unfoldable pub bytesOf : (ℕ → ℕ) → ℕ → List ℕ
+unfoldable bytesOf : (ℕ → ℕ) → ℕ → List ℕ
 bytesOf w zero = []
 bytesOf w (suc n) = w 0 % 256 ∷ w 0 / 256 ∷ bytesOf (λ i. w (suc i)) n
 

@@ -1,12 +1,11 @@
 -- What a fact's row says of b's set before its node's fetch, and how an edge carries it on. Assumes nothing.
-use Prim.Native.Nat.{ℕ, zero, suc, _+_, _-_, _*_, _%_, _≤_, _<_}
+use Prim.Native.Nat.{ℕ, _+_, _-_, _*_, _%_, _≤_, _<_}
 use native.Mathlib.Omega.{arith}
 use native.Mathlib.Decide.{ℕ-discrete, decLe}
-use mathlib.Core.Path.{_≡_, refl, ap}
+use mathlib.Core.Path.{_≡_, ap}
 use mathlib.Core.Logic.{_≢_}
 use mathlib.Core.Bool.{Bool, cond}
 use mathlib.Core.List.{List, []}
-use Rattle.paper.specs.Lists.{table}
 use Rattle.paper.specs.Machines.{none}
 use Rattle.paper.specs.Cases.{Row, Fact, Case}
 use Rattle.paper.specs.Facts.{held}
@@ -16,30 +15,17 @@ use Rattle.paper.proofs.Says.{Says, holds, fails}
 use Rattle.paper.proofs.Tables.{length-table}
 use Rattle.paper.proofs.RowLaws.{held-set}
 use Rattle.paper.proofs.Meaning.{Holds, SoundRow, Carried, EdgeRule}
-use Rattle.theory.proofs.Blocks.{blocks}
-use Rattle.theory.proofs.Count.{cnt, sum, one-yes, one-no}
+use Rattle.theory.proofs.Blocks.{blocks, holds-mem, mem-holds}
+use Rattle.theory.proofs.Count.{cnt, sum, mem-cnt, cnt-mem}
 use Rattle.theory.proofs.Law.{Machine, Law}
 use Rattle.paper.proofs.TestLaws.{lives-says}
 use Rattle.theory.proofs.Moves.{moved}
 
--- its members are the blocks in the slots
-held-cnt : (g : ℕ → ℕ) (n k : ℕ) → k < n → 1 ≤ cnt (g k) (table g n)
-unfolding table sum
-held-cnt g zero k h = absurd (omega arith)
-held-cnt g (suc n) zero h = omega (arith, one-yes (g 0) (g 0) refl)
-held-cnt g (suc n) (suc k) h = omega (arith, held-cnt (λ i. g (suc i)) n k (omega arith))
-
-cnt-held : (y : ℕ) (g : ℕ → ℕ) (n : ℕ) → 1 ≤ cnt y (table g n) → (k : ℕ) × (k < n) × (g k ≡ y)
-unfolding table sum
-cnt-held y g zero h = absurd (omega arith)
-cnt-held y g (suc n) h =
-    elim (ℕ-discrete (g 0) y) [
-      | yes p ↦ (0, omega arith, p)
-      | no q ↦ let (k, l, p) = cnt-held y (λ i. g (suc i)) n (omega (arith, one-no y (g 0) q)) in (suc k, omega arith, p)
-    ]
-
 holds-cnt : (r : Row) (x : ℕ) → Holds r x → 1 ≤ cnt x (blocks r)
-holds-cnt r x (k, l, p) = omega (arith, held-cnt (r .slot) (held r) k l, ap (λ (y : ℕ). cnt y (blocks r)) p)
+holds-cnt r x h = mem-cnt (holds-mem r x h)
+
+cnt-holds : (r : Row) (x : ℕ) → 1 ≤ cnt x (blocks r) → Holds r x
+cnt-holds r x h = mem-holds r x (cnt-mem x (blocks r) h)
 
 module _ (e : Case) (M : Machine) (t : Fact) (c a d : ℕ) (L : Law M (t .block) (t .limit - 1) c a d) where
   -- A set: all other accesses of b's set since b were of its blocks. 8: nothing is known, and b is not fetched again in this stay. 9: it cannot be.
@@ -55,7 +41,7 @@ module _ (e : Case) (M : Machine) (t : Fact) (c a d : ℕ) (L : Law M (t .block)
       real : cnt none (blocks r) ≡ 0
       real =
           elim (decLe 1 (cnt none (blocks r))) [
-            | yes n ↦ let (j, l, p) = cnt-held none (r .slot) (held r) n in absurd (z .others j l .1 p)
+            | yes n ↦ let (j, l, p) = cnt-holds r none n in absurd (z .others j l .1 p)
             | no n ↦ omega arith
           ]
 
@@ -89,7 +75,7 @@ module _ (e : Case) (M : Machine) (t : Fact) (c a d : ℕ) (L : Law M (t .block)
       go p (set l k) =
           let w = h .other n (omega arith) p in
           set (w .set-after)
-          (on (widened m (blocks r) r′ s z (w .set-after) (λ y i. kept w y (cnt-held y (r .slot) (held r) i)) k) (w .adds)
+          (on (widened m (blocks r) r′ s z (w .set-after) (λ y i. kept w y (cnt-holds r y i)) k) (w .adds)
           (lives-says e (t .block % e .sets) (e .block v)))
       go p (many l) = absurd (h .other n (omega arith) p .set-before l)
 

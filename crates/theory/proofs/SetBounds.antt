@@ -1,5 +1,5 @@
 -- A set's misses are at most its bound, and all misses at most the total, in the machines on k lines. Assumes nothing.
-use Prim.Native.Nat.{ℕ, zero, suc, _-_, _%_, _≤_, _<_}
+use Prim.Native.Nat.{ℕ, zero, suc, _%_, _≤_, _<_}
 use native.Mathlib.Omega.{arith}
 use native.Mathlib.Nat.{mod-lt}
 use mathlib.Core.Path.{_≡_, refl, ap}

@@ -2,14 +2,14 @@
 use Prim.Native.Nat.{ℕ, _≤_, _<_}
 use native.Mathlib.Omega.{arith}
 use mathlib.Core.Path.{_≡_, refl, sym, _∙_, ap}
-use mathlib.Core.Bool.{Bool, true, false, _&&_, cond, false≢true}
+use mathlib.Core.Bool.{Bool, true, false, _&&_, cond}
 use mathlib.Core.List.{List}
 use borrow.Author.Tests.{not-false}
 use Rattle.paper.specs.Cases.{Fact, Case}
 use Rattle.paper.specs.Walks.{Walk, KeepsLimits}
 use Rattle.paper.specs.Bounds.{covers, lives, uncovered, sumOf}
 use Rattle.paper.proofs.Least.{is-some}
-use Rattle.paper.proofs.Says.{says-true}
+use Rattle.paper.proofs.Says.{says-true, both}
 use Rattle.paper.proofs.Meaning.{Sound}
 use Rattle.theory.proofs.SumLaws.{sum-le, cond-le}
 use Rattle.theory.proofs.Costs.{paid, paid-split}
@@ -18,17 +18,13 @@ use Rattle.theory.proofs.Law.{Machine, Fair}
 use Rattle.paper.proofs.TestLaws.{covers-says}
 use Rattle.theory.proofs.Moves.{inSet, Held, misses, misses-le}
 
-and-true : (a b : Bool) → (a && b) ≡ true → (a ≡ true) × (b ≡ true)
-and-true true b h = (refl, h)
-and-true false b h = absurd (false≢true h)
-
 -- a node of set q that is not uncovered is covered by a fact of the set that passes
 covered : (e : Case) (test : Fact → Bool) (q v : ℕ) → lives e q (e .block v) ≡ true → uncovered e test q v ≡ false →
     (i : ℕ) × (i < e .facts) × ((lives e q (e .fact i .block) && test (e .fact i)) ≡ true) × (covers e (e .fact i) v ≡ true)
 unfolding uncovered
 covered e test q v h k =
     let r = is-some (λ i. test (e .fact i) && covers e (e .fact i) v) (e .facts) (not-false _ (rw h at k)) in
-    let z = and-true (test (e .fact (r .at))) (covers e (e .fact (r .at)) v) (r .holds) in
+    let z = both (test (e .fact (r .at))) (covers e (e .fact (r .at)) v) (r .holds) in
     let y : lives e q (e .fact (r .at) .block) ≡ true = ap (lives e q) (sym (says-true (covers-says e (e .fact (r .at)) v) (z .1) .1)) ∙ h in
     (r .at, r .below, rw (y, z .0) refl, z .1)
 
@@ -47,7 +43,7 @@ set-sum e s w walk kept M fair test each q c h =
           (λ i. cond (on i) (paid (covers e (e .fact i)) (misses e M w c)) 0)
           (λ i. cond (on i) (each (e .fact i)) 0)
           (e .facts)
-          (λ i l. cond-le (on i) (λ z. h i l (and-true (lives e q (e .fact i .block)) (test (e .fact i)) z .1))),
+          (λ i l. cond-le (on i) (λ z. h i l (both (lives e q (e .fact i .block)) (test (e .fact i)) z .1))),
       misses-le e M fair (uncovered e test q) w c,
       passing-le-counts e (s .graph) (s .nodes) (uncovered e test q) w walk kept,
     )

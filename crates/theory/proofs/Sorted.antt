@@ -2,14 +2,14 @@
 use Prim.Native.Nat.{ℕ, zero, suc, _+_, _≤_, _<_}
 use native.Mathlib.Omega.{arith}
 use native.Mathlib.Decide.{ℕ-discrete}
-use mathlib.Core.Path.{_≡_, refl}
+use mathlib.Core.Path.{refl}
 use mathlib.Core.Logic.{_≢_, ⊎-elim}
 use mathlib.Core.List.{List, [], _∷_, List·Memᴰ, List·Memᴰ·head, List·Memᴰ·tail, List·Memᴰ·cases-cons, List·Memᴰ·not-nil}
 use lib.ListN.{length}
 use Rattle.paper.specs.Demands.{Rising}
 
 -- c is not the first
-pub later : {c y : ℕ} {t : List ℕ} → c ≢ y → List·Memᴰ c (y ∷ t) → List·Memᴰ c t
+later : {c y : ℕ} {t : List ℕ} → c ≢ y → List·Memᴰ c (y ∷ t) → List·Memᴰ c t
 later n m = ⊎-elim (λ e. absurd (n e)) (λ m′. m′) (List·Memᴰ·cases-cons m)
 
 -- a rising list whose elements another has is no longer

@@ -1,11 +1,12 @@
-use native.Mathlib.Omega.{arith}
 use mathlib.Core.Path.{_∙_}
 use borrow.Author.Needs.{needs}
 use Rattle.paper.specs.Files.{caseOf}
 use Rattle.charge.specs.Ready.{Ready}
 use Rattle.charge.specs.Tables.{Part}
+use Rattle.charge.proofs.Buckets.{chained-start}
+use Rattle.charge.proofs.Cover.{covered-start}
 use Rattle.charge.proofs.Parts.{part-start, part-self, part-end}
-use Rattle.charge.proofs.Starts.{chained-start, covered-start, facts-start, nodes-start}
+use Rattle.charge.proofs.Tallies.{grouped-start}
 use Rattle.charge.proofs.charge.Statement.{statement}
 use Rattle.charge.proofs.charge.Tie as tie
 
@@ -19,60 +20,32 @@ cleared c = part-start _ _ _ (c .before .before .before .before .before .pre .1 
 charge-facts-requires : tie.Need-charge-facts-requires
 unfolding caseOf
 charge-facts-requires c κs =
-    let p = cleared (c .before .before .before .before .before .before .before .before .before .before) in
-    let s = c .before .before .before .before .before .before .before .before .before .before .before .before .before .before .before .pre in (
-      ready (c .before .before .before .before .before .before .before .before .before .before .before .before .before .before .before),
-      (
-        c .before .before .before .before .before .before .chain-nodes .ensures,
-        (covered-start _ (s .0 .nodes-high), (facts-start _, (part-self _ _ _ _ _ _ p, omega (arith, p .room, s .1 .1 .1 .1)))),
-      ),
-    )
-
-charge-nodes-requires : tie.Need-charge-nodes-requires
-charge-nodes-requires c κs = (ready (c .before .before .before .before .before .before .before .before .before .before .before .before .before .before .before .before .before .before .before .before .before .before .before .before), (c .before .before .before .before .before .before .before .before .charge-facts .ensures .0, nodes-start _))
+    let s = c .before .before .before .before .before .before .before .before .before .before .before .before .before .before in
+    (ready s, (c .before .before .before .before .before .chain-nodes .ensures, (covered-start _ (s .pre .0 .nodes-high), (grouped-start _ _ _ _, part-self _ _ _ _ _ _ (cleared (c .before .before .before .before .before .before .before .before .before))))))
 
 charge-sets-requires : tie.Need-charge-sets-requires
 charge-sets-requires c κs =
-    let w = c .before .before .before .before .before .before .before .before .before .before .before .before .before .before .before .before .charge-facts .ensures .1 in
-    let p = cleared (c .before .before .before .before .before .before .before .before .before .before .before .before .before .before .before .before .before .before .before .before .before .before .before .before .before .before .before) in
-    let s = c .before .before .before .before .before .before .before .before .before .before .before .before .before .before .before .before .before .before .before .before .before .before .before .before .before .before .before .before .before .before .before .before .pre in (
-      s .0,
-      (
-        s .1 .0,
-        (w .0, (c .before .before .before .before .before .before .before .charge-nodes .ensures, (part-self _ _ _ _ _ _ (w .1), omega (arith, w .1 .room, p .room, s .1 .1 .1 .1)))),
-      ),
-    )
+    let s = c .before .before .before .before .before .before .before .before .before .before .before .before .before .before .before .before .before .before .before .before .before .before .before .before .before .before .pre in
+    let w = c .before .before .before .before .before .before .before .before .before .before .before .charge-facts .ensures .1 in
+    (record { laid = s .0; sound = s .1 .0; facts = w .0; nodes = c .before .before .before .before .before .charge-nodes .ensures }, part-self _ _ _ _ _ _ (w .1))
 
 same-length : tie.Need-same-length
-same-length c = c .before .before .charge-sets .ensures .room ∙ (c .before .before .before .before .before .before .before .before .before .before .before .before .before .before .before .before .before .before .before .charge-facts .ensures .1 .1 .room ∙ cleared (c .before .before .before .before .before .before .before .before .before .before .before .before .before .before .before .before .before .before .before .before .before .before .before .before .before .before .before .before .before .before) .room)
+same-length c = c .before .before .charge-sets .ensures .room ∙ (c .before .before .before .before .before .before .before .before .before .before .before .before .before .before .charge-facts .ensures .1 .1 .room ∙ cleared (c .before .before .before .before .before .before .before .before .before .before .before .before .before .before .before .before .before .before .before .before .before .before .before .before) .room)
 
 returns : tie.Need-returns
 unfolding caseOf
 returns c =
-    let w = c .before .before .before .before .before .before .before .before .before .before .before .before .before .before .before .before .before .before .before .charge-facts .ensures .1 .1 in
-    let p = cleared (c .before .before .before .before .before .before .before .before .before .before .before .before .before .before .before .before .before .before .before .before .before .before .before .before .before .before .before .before .before .before) in
-    part-end _ (c .before .before .before .before .before .before .before .before .before .before .before .before .before .before .before .before .before .before .before .before .before .before .before .before .before .before .before .before .before .before .before .before .before .before .before .args .bounds .now) _ _ (c .before .before .before .before .before .before .before .before .before .before .before .before .before .before .before .before .before .before .before .before .before .before .before .before .before .before .before .before .before .before .before .before .before .before .before .pre .1 .1 .1 .1) (w .room ∙ p .room) (w .later ∙ p .later) (c .before .before .charge-sets .ensures)
+    part-end _ (c .before .before .before .before .before .before .before .before .before .before .before .before .before .before .before .before .before .before .before .before .before .before .before .before .before .before .before .before .before .args .bounds .now) _ _ (c .before .before .before .before .before .before .before .before .before .before .before .before .before .before .charge-facts .ensures .1 .1 .later ∙ cleared (c .before .before .before .before .before .before .before .before .before .before .before .before .before .before .before .before .before .before .before .before .before .before .before .before) .later)
+    (c .before .before .charge-sets .ensures)
 
 pub charge-spec : {M : Type 1} → statement M
 charge-spec =
     tie.close
     (tie.spec
     (λ c κs. search needs)
-    (λ c. search needs)
     (λ c κs. (c .before .before .before .before .before .before .before .before .pre .0, chained-start _))
-    (λ c. search needs)
-    (λ c. search needs)
-    (λ c. search needs)
-    (λ c. search needs)
     charge-facts-requires
-    (λ c. search needs)
-    (λ c. search needs)
-    (λ c. search needs)
-    charge-nodes-requires
-    (λ c. search needs)
-    (λ c. search needs)
-    (λ c. search needs)
-    (λ c. search needs)
+    (λ c κs. (ready (c .before .before .before .before .before .before .before .before .before .before .before .before .before .before .before .before .before .before .before .before), (c .before .before .before .before .before .charge-facts .ensures .0, grouped-start _ _ _ _)))
     charge-sets-requires
     same-length
     returns)

@@ -1,0 +1,71 @@
+-- The laws of the loop that adds the facts. Assumes nothing.
+use Prim.Native.Nat.{ℕ, _+_, _%_, _≤_, _<_}
+use native.Mathlib.Omega.{arith}
+use native.Mathlib.Numerals.{add-one}
+use mathlib.Core.Path.{_≡_, refl}
+use mathlib.Core.List.{List}
+use lib.ListN.{set}
+use Rattle.paper.specs.declared.Trailer.{Trailer}
+use Rattle.paper.specs.Bounds.{covers}
+use Rattle.paper.specs.Files.{u16At, endAt, factAt, factEnd, factPlace, caseOf}
+use Rattle.paper.proofs.Meaning.{SoundHead}
+use Rattle.charge.specs.Ready.{Ready}
+use Rattle.charge.specs.Tables.{plus, placeOf, Open, Limits, Lowered, Covered, FactsAdded, Part, costOf}
+use Rattle.charge.specs.declared.facts.Cost.{Cost}
+use Rattle.charge.proofs.Cover.{covered-more, covered-limits}
+use Rattle.charge.proofs.Parts.{part-fact}
+use Rattle.charge.proofs.Small.{set-low, fact-head, fact-small}
+use Rattle.charge.proofs.Sums.{at-end}
+use Rattle.charge.proofs.Tallies.{grouped-more, grouped-open}
+
+-- a loop over the facts is at fact i, which stands at p
+pub record Adding (f : List ℕ) (t : Trailer) (old : List ℕ) (i p : ℕ) (cover charged entered bounds : List ℕ) : Type 0 where
+  pub within : i ≤ t .facts
+  pub place : p ≡ factPlace f t i
+  pub covered : Covered (caseOf f t) i cover
+  pub added : FactsAdded (caseOf f t) i charged entered
+  pub part : Part (caseOf f t) 0 0 i old bounds
+
+module _ (f : List ℕ) (t : Trailer) (old : List ℕ) (i p : ℕ) (cover charged entered bounds : List ℕ) (w : Adding f t old i p cover charged entered bounds) where
+  pub adding-end : t .facts ≤ i → Covered (caseOf f t) (t .facts) cover × (FactsAdded (caseOf f t) (t .facts) charged entered × Part (caseOf f t) 0 0 (t .facts) old bounds)
+  adding-end h =
+      at-end (λ n. Covered (caseOf f t) n cover × (FactsAdded (caseOf f t) n charged entered × Part (caseOf f t) 0 0 n old bounds)) i (t .facts) (w .within) h
+      (w .covered, (w .added, w .part))
+
+  pub adding-limits : Limits (caseOf f t) cover
+  adding-limits = covered-limits (caseOf f t) i cover (w .covered)
+
+  module _ (c : List ℕ) (r : Ready f t c) (h : i < t .facts) where
+    pub head-at : SoundHead (caseOf f t) (factAt f p)
+    unfolding caseOf
+    head-at = rw (w .place) (fact-head f t (r .laid) (r .sound) i h)
+
+    pub end-at : factEnd f t p ≤ endAt f
+    end-at = rw (w .place) (r .placed .ends i h)
+
+    limit-low : caseOf f t .fact i .limit < 10
+    unfolding caseOf
+    limit-low = omega (arith, fact-head f t (r .laid) (r .sound) i h .high, r .laid .ways-high)
+
+    module _ (k : Cost) (costs : k ≡ costOf f t p) where
+      pub adding-open : Open charged entered (k .block % t .sets) (k .limit) (k .bound) (k .entries)
+      unfolding caseOf costOf
+      adding-open =
+          rw (costs, w .place)
+          (grouped-open _ _ _ _ i charged entered (w .added) (set-low f t (r .laid) (r .sound) _) limit-low (omega (arith, r .laid .facts-high))
+          (λ j q. let s = fact-small f t (r .laid) (r .sound) j (omega arith) in (s .0, omega (arith, s .1))))
+
+      pub adding-more :
+          (new charged′ entered′ : List ℕ) → Lowered (caseOf f t) (covers (caseOf f t) (factAt f p)) (u16At f (p + 4)) cover new
+          → charged′ ≡ plus charged (k .block % t .sets) (k .bound) → entered′ ≡ plus entered (placeOf (k .block % t .sets) (k .limit)) (k .entries)
+          → Adding f t old (i + 1) (k .next) new charged′ entered′ (set bounds (65 + i) (k .bound))
+      unfolding caseOf costOf factPlace
+      adding-more new charged′ entered′ low ec ee =
+          rw (ec, ee, costs, w .place)
+          (record {
+            within = omega arith;
+            place = rw add-one refl;
+            covered = covered-more (caseOf f t) i cover new (w .covered) (rw (← w .place) low);
+            added = grouped-more _ _ _ _ i charged entered (w .added) (set-low f t (r .laid) (r .sound) _) limit-low;
+            part = part-fact (caseOf f t) old i _ bounds (omega (arith, r .laid .facts-high)) refl (w .part);
+          })

@@ -1,0 +1,75 @@
+-- The numbers of a file's facts and nodes are small, and so are their sums. Assumes nothing.
+use Prim.Native.Nat.{ℕ, _+_, _-_, _%_, _≤_, _<_}
+use native.Mathlib.Omega.{arith}
+use native.Mathlib.Nat.{div-le-self, mod-lt}
+use mathlib.Core.Bool.{cond, not}
+use mathlib.Core.List.{List}
+use lib.Dec.{eqb, ltb}
+use lib.ListN.{getD}
+use Rattle.paper.specs.declared.Trailer.{Trailer}
+use Rattle.paper.specs.Machines.{none}
+use Rattle.paper.specs.Graphs.{count, entries}
+use Rattle.paper.specs.Bounds.{g, boundOf, covers, counts, factBound}
+use Rattle.paper.specs.Files.{nodeAt, caseOf}
+use Rattle.paper.proofs.Meaning.{SoundHead, Sound}
+use Rattle.layout.specs.Laid.{Laid}
+use Rattle.charge.specs.Tables.{entriesIn, weight, FactsAdded, NodesAdded}
+use Rattle.charge.proofs.Entries.{entries-low}
+use Rattle.charge.proofs.Sums.{sum-low, cond-low}
+use Rattle.charge.proofs.Tallies.{sets-low, limits-low}
+
+bound-low : (p k l E N a : ℕ) → E + N ≤ a → boundOf p k l E N ≤ a
+unfolding boundOf
+bound-low p k l E N a h =
+    let z : E ≤ a = omega arith in
+    cond-low (eqb p 0) z
+    (cond-low (eqb p 1) (cond-low (ltb l 2) z (omega (arith, div-le-self (N - E) (g k l)))) (cond-low (ltb l 2) z (omega arith)))
+
+module _ (f : List ℕ) (t : Trailer) (laid : Laid f t) (sound : Sound (caseOf f t)) where
+  -- "block b lives in set b mod S"
+  pub set-low : (b : ℕ) → b % t .sets < 64
+  set-low b = let h : 0 < t .sets = omega (arith, laid .sets-low) in omega (arith, mod-lt b h, laid .sets-high)
+
+  module _ (i : ℕ) (h : i < t .facts) where
+    pub fact-head : SoundHead (caseOf f t) (caseOf f t .fact i)
+    unfolding caseOf
+    fact-head = sound .facts i h .head
+
+    entries-small : entries (caseOf f t) (caseOf f t .fact i) ≤ 4294967295
+    unfolding entries entriesIn
+    entries-small = entries-low (caseOf f t) (sound .graph) (caseOf f t .fact i .scope) (fact-head .scope)
+
+    pub fact-small : (factBound (caseOf f t) (caseOf f t .fact i) ≤ 4402341477375) × (entries (caseOf f t) (caseOf f t .fact i) ≤ 4294967295)
+    unfolding factBound counts caseOf
+    fact-small = (
+      bound-low (t .policy) (t .ways) (caseOf f t .fact i .limit) (entries (caseOf f t) (caseOf f t .fact i)) _ 4402341477375
+          (omega (
+            arith,
+            entries-small,
+            sum-low (λ v. cond (covers (caseOf f t) (caseOf f t .fact i) v) (count (caseOf f t) v) 0) 4294967295 (t .nodes)
+                (λ v q. cond-low (covers (caseOf f t) (caseOf f t .fact i) v) (sound .graph .counts v q) (omega arith)),
+            laid .nodes-high,
+          )),
+      entries-small,
+    )
+
+  pub weight-small : (v : ℕ) → v < t .nodes → weight (caseOf f t) v ≤ 4294967295
+  unfolding weight caseOf
+  weight-small v h = cond-low (not (eqb (nodeAt f v) none)) (sound .graph .counts v h) (omega arith)
+
+  module _ (charged entered : List ℕ) (w : FactsAdded (caseOf f t) (t .facts) charged entered) where
+    pub charged-small : (j : ℕ) → j < 64 → getD charged j 0 ≤ 1126999418208000
+    charged-small j l = omega (arith, sets-low _ _ _ _ _ _ _ w 4402341477375 4294967295 fact-small j l, laid .facts-high)
+
+    pub entered-small : (j : ℕ) → j < 640 → getD entered j 0 ≤ 1099511627520
+    entered-small j l = omega (arith, limits-low _ _ _ _ _ _ _ w 4402341477375 4294967295 fact-small j l, laid .facts-high)
+
+  module _ (fetched spent : List ℕ) (w : NodesAdded (caseOf f t) (t .nodes) fetched spent) where
+    both : (v : ℕ) → v < t .nodes → (weight (caseOf f t) v ≤ 4294967295) × (weight (caseOf f t) v ≤ 4294967295)
+    both v h = (weight-small v h, weight-small v h)
+
+    pub fetched-small : (j : ℕ) → j < 64 → getD fetched j 0 ≤ 4398046510080
+    fetched-small j l = omega (arith, sets-low _ _ _ _ _ _ _ w 4294967295 4294967295 both j l, laid .nodes-high)
+
+    pub spent-small : (j : ℕ) → j < 640 → getD spent j 0 ≤ 4398046510080
+    spent-small j l = omega (arith, limits-low _ _ _ _ _ _ _ w 4294967295 4294967295 both j l, laid .nodes-high)

@@ -1,0 +1,51 @@
+use Prim.Native.Nat.{_-_, _<_}
+use native.Mathlib.Omega.{arith}
+use borrow.Author.Needs.{needs}
+use lib.ListN.{length-set}
+use Rattle.paper.specs.Bounds.{setBound}
+use Rattle.paper.specs.Files.{caseOf}
+use Rattle.paper.proofs.Sums.{Added, added-start, added-more}
+use Rattle.charge.specs.Tables.{Part}
+use Rattle.charge.proofs.Parts.{part-set, part-total}
+use Rattle.charge.proofs.sets.charge_sets.Statement.{statement}
+use Rattle.charge.proofs.sets.charge_sets.Tie as tie
+
+abbrev Inv-loop : tie.InvT-loop
+Inv-loop file t charged entered fetched spent bounds₀ n total₀ q₀ bounds total q =
+    Part (caseOf file t) 0 q (t .facts) bounds₀ bounds × Added (setBound (caseOf file t)) 1131397464718080 (t .sets) total q
+
+abbrev μ-loop : tie.MeasureT-loop
+μ-loop file t charged entered fetched spent bounds₀ n total₀ q₀ bounds total q = n - q
+
+low : (c : tie.In-loop Inv-loop μ-loop) → c .before .loop .q < 64
+low c = omega (arith, c .loop-test .taken, c .before .before .before .before .before .pre .0 .laid .sets-high)
+
+loop-again : tie.Need-loop-again Inv-loop μ-loop
+loop-again c =
+    let w = c .before .before .loop .inv in
+    let s = c .set-bound .ensures in
+    (part-set _ _ _ _ _ _ (low (c .before)) (s .0) (w .0), added-more _ _ _ _ _ _ (w .1) (c .before .loop-test .taken) (s .0) (s .1))
+
+returns : tie.Need-returns Inv-loop μ-loop
+unfolding caseOf
+returns c = part-total _ _ _ _ _ _ _ (c .before .loop .inv .0) (c .before .loop .inv .1) (c .loop-test .left)
+
+pub charge-sets-spec : {M : Type 1} → statement M
+charge-sets-spec =
+    tie.close
+    (tie.spec
+    Inv-loop
+    μ-loop
+    (λ c. search needs)
+    (λ c. (c .before .before .before .pre .1, added-start _ _ _))
+    (λ c κs. (c .before .before .before .before .before .pre .0, low c))
+    (λ c. omega (arith, low (c .before)))
+    (λ c. omega (arith, low (c .before)))
+    (λ c. let w = c .before .before .loop .inv .0 in omega (arith, low (c .before), w .all, w .room))
+    (λ c. omega (arith, low (c .before), c .before .before .loop .inv .1 .small, c .set-bound .ensures .1))
+    (λ c. omega (arith, low (c .before)))
+    (λ c. omega (arith, c .before .loop-test .taken))
+    loop-again
+    (λ c. let w = c .before .loop .inv .0 in omega (arith, w .all, w .room))
+    (λ c. simp length-set (c .before .loop .inv .0 .room))
+    returns)

@@ -1,0 +1,72 @@
+use Prim.Native.Nat.{_-_, _*_, _+_, _<_}
+use native.Mathlib.Omega.{arith}
+use mathlib.Core.Path.{refl}
+use borrow.Author.Needs.{needs}
+use Rattle.paper.specs.Files.{caseOf}
+use Rattle.paper.proofs.Sums.{lowest-end}
+use Rattle.charge.proofs.Floors.{Flooring, flooring-start, out-fits, in-small, next-small, flooring-more}
+use Rattle.charge.proofs.sets.least_floor.Statement.{statement}
+use Rattle.charge.proofs.sets.least_floor.Tie as tie
+
+abbrev Inv-loop : tie.InvT-loop
+Inv-loop file t charged entered fetched spent q a k m₀ x₀ j₀ m x j = Flooring (caseOf file t) q a m x j
+
+abbrev μ-loop : tie.MeasureT-loop
+μ-loop file t charged entered fetched spent q a k m₀ x₀ j₀ m x j = k - j
+
+loop-holds : tie.Need-loop-holds Inv-loop μ-loop
+loop-holds c = let p = c .before .before .before .pre in flooring-start _ _ _ _ _ _ (p .0) _ (p .1) _
+
+-- the place in the tables
+place : (c : tie.In-loop Inv-loop μ-loop) → 10 * c .before .before .before .before .before .args .q + (c .before .loop .j + 1) < 640
+place c = let p = c .before .before .before .before .before .pre in omega (arith, c .loop-test .taken, p .0 .laid .ways-high, p .1)
+
+add-m : tie.Need-add-m Inv-loop μ-loop
+add-m c =
+    let p = c .before .before .before .before .before .before .pre in
+    omega (arith, in-small _ _ _ _ _ _ (p .0) _ (p .1) _ _ _ _ (c .before .before .loop .inv) (c .before .loop-test .taken), c .before .loop-test .taken, p .0 .laid .ways-high)
+
+sub-m : tie.Need-sub-m Inv-loop μ-loop
+sub-m c =
+    let p = c .before .before .before .before .before .before .before .pre in
+    out-fits _ _ _ _ _ _ (p .0) _ (p .1) _ _ _ _ (c .before .before .before .loop .inv) (c .before .before .loop-test .taken)
+
+floor-of-requires : tie.Need-floor-of-requires Inv-loop μ-loop
+floor-of-requires c κs =
+    let h = c .before .before .loop-test .taken in
+    let p = c .before .before .before .before .before .before .before .pre in
+    (omega (arith, h), (p .0 .laid .ways-high, next-small _ _ _ _ _ _ (p .0) _ (p .1) _ _ _ _ (c .before .before .before .loop .inv) h))
+
+loop-again : tie.Need-loop-again Inv-loop μ-loop
+loop-again c =
+    let p = c .before .before .before .before .before .before .before .before .before .pre in
+    flooring-more _ _ _ _ _ _ (p .0) _ (p .1) _ _ _ _ (c .before .before .before .before .before .loop .inv) (c .before .before .before .before .loop-test .taken) _ _ _ refl (c .before .floor-of .ensures) (c .lesser .ensures)
+
+returns : tie.Need-returns Inv-loop μ-loop
+unfolding caseOf
+returns c = lowest-end _ _ _ _ _ (c .before .loop .inv .lowest) (c .loop-test .left)
+
+pub least-floor-spec : {M : Type 1} → statement M
+least-floor-spec =
+    tie.close
+    (tie.spec
+    Inv-loop
+    μ-loop
+    (λ c. search needs)
+    (λ c. omega (arith, c .before .before .pre .1))
+    (λ c. c .before .before .pre .1)
+    loop-holds
+    (λ c. omega (arith, place c))
+    (λ c. omega (arith, place c))
+    (λ c. omega (arith, place c))
+    (λ c. omega (arith, place c))
+    (λ c. place c)
+    add-m
+    (λ c. omega (arith, place (c .before)))
+    (λ c. place (c .before))
+    sub-m
+    floor-of-requires
+    (λ c κs. search needs)
+    (λ c. omega (arith, c .before .before .before .before .loop-test .taken))
+    loop-again
+    returns)

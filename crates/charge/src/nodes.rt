@@ -1,0 +1,31 @@
+// The pass over the nodes.
+ghost use Rattle.paper.specs.Files as Files;
+ghost use Rattle.charge.specs.Ready.{Ready};
+ghost use Rattle.charge.specs.Tables as Tables;
+use crate::amounts;
+use paper::Trailer;
+
+// All nodes: their counts by set, and by set and the least limit that covers them.
+pub fn charge_nodes(
+    file: &[u8],
+    t: Trailer,
+    counts: &[u32],
+    cover: &[u16; 1024],
+    fetched: &mut [u64; 64],
+    spent: &mut [u64; 640],
+)
+    requires { ⌜ Ready (now file) t (now counts) ⌝ }
+    requires { ⌜ Tables.Covered (Files.caseOf (now file) t) (t .facts) (now cover) ⌝ }
+    requires { ⌜ Tables.NodesAdded (Files.caseOf (now file) t) 0 (now fetched) (now spent) ⌝ }
+    ensures { λ r. ⌜ Tables.NodesAdded (Files.caseOf (now (file .entry)) t) (t .nodes) (now (fetched .exit)) (now (spent .exit)) ⌝ }
+{
+    let n = t.nodes;
+    let mut v: u16 = 0;
+    while v < n {
+        let b = layout::node_at(file, t, v);
+        let at = v as usize;
+        let x = amounts::count_if(b != 65535, counts[at]);
+        amounts::add(fetched, spent, t.sets, b, cover[at], x, x);
+        v += 1;
+    }
+}

@@ -1,0 +1,88 @@
+// The pass over the sets: the set bounds and the total, from the sums of the facts and the nodes. (The file is lent for the contracts.)
+ghost use mathlib.Core.Path.{_≡_};
+ghost use Prim.Native.Nat.{_<_, _≤_};
+ghost use Rattle.paper.specs.Lists.{lowestTo};
+ghost use Rattle.paper.specs.Bounds as Bounds;
+ghost use Rattle.paper.specs.Files as Files;
+ghost use Rattle.charge.specs.Summed.{Summed};
+ghost use Rattle.charge.specs.Tables as Tables;
+use crate::formulas;
+use paper::Trailer;
+
+// "the least of A and, for each l from 1 to k, floor(k·M(l)/(k-l+1))": M(l) is M(l-1), with the entries of the facts of limit l for the counts that they cover.
+fn least_floor(
+    file: &[u8],
+    t: Trailer,
+    charged: &[u64; 64],
+    entered: &[u64; 640],
+    fetched: &[u64; 64],
+    spent: &[u64; 640],
+    q: usize,
+    a: u64,
+) -> u64
+    requires { ⌜ Summed (now file) t (now charged) (now entered) (now fetched) (now spent) ⌝ }
+    requires { ⌜ q < 64 ⌝ }
+    ensures { λ r. ⌜ r ≡ lowestTo (Bounds.floorAt (Files.caseOf (now (file .entry)) t) q) a (t .ways) ⌝ }
+    ensures { λ r. ⌜ r ≤ a ⌝ }
+{
+    let k = t.ways as u64;
+    let mut m = fetched[q];
+    let mut x = a;
+    let mut j: u64 = 0;
+    while j < k {
+        let l = j + 1;
+        let at = 10 * q + l as usize;
+        m = m + entered[at] - spent[at];
+        x = formulas::lesser(x, formulas::floor_of(t, l, m));
+        j = l;
+    }
+    x
+}
+
+// "Set bound: for LRU and NMRU, A. For FIFO, the least of A and" the floors.
+fn set_bound(
+    file: &[u8],
+    t: Trailer,
+    charged: &[u64; 64],
+    entered: &[u64; 640],
+    fetched: &[u64; 64],
+    spent: &[u64; 640],
+    q: usize,
+) -> u64
+    requires { ⌜ Summed (now file) t (now charged) (now entered) (now fetched) (now spent) ⌝ }
+    requires { ⌜ q < 64 ⌝ }
+    ensures { λ r. ⌜ r ≡ Bounds.setBound (Files.caseOf (now (file .entry)) t) q ⌝ }
+    ensures { λ r. ⌜ r ≤ 1131397464718080 ⌝ }
+{
+    let a = charged[q] + spent[10 * q + 9];
+    if t.policy == 1 {
+        return least_floor(file, t, charged, entered, fetched, spent, q, a);
+    }
+    a
+}
+
+// The sets' bounds, and "Total: the sum over sets."
+pub fn charge_sets(
+    file: &[u8],
+    t: Trailer,
+    charged: &[u64; 64],
+    entered: &[u64; 640],
+    fetched: &[u64; 64],
+    spent: &[u64; 640],
+    bounds: &mut [u64],
+)
+    requires { ⌜ Summed (now file) t (now charged) (now entered) (now fetched) (now spent) ⌝ }
+    requires { ⌜ Tables.Part (Files.caseOf (now file) t) 0 0 (t .facts) (now bounds) (now bounds) ⌝ }
+    ensures { λ r. ⌜ Tables.Part (Files.caseOf (now (file .entry)) t) (Bounds.totalBound (Files.caseOf (now (file .entry)) t)) (t .sets) (t .facts) (now (bounds .entry)) (now (bounds .exit)) ⌝ }
+{
+    let n = t.sets as usize;
+    let mut total: u64 = 0;
+    let mut q: usize = 0;
+    while q < n {
+        let x = set_bound(file, t, charged, entered, fetched, spent, q);
+        bounds[1 + q] = x;
+        total += x;
+        q += 1;
+    }
+    bounds[0] = total;
+}
