@@ -12,12 +12,6 @@ Inv-loop bytes₀ numbers i₀ bytes i = Laying 8 bytes₀ numbers i bytes
 abbrev μ-loop : tie.MeasureT-loop
 μ-loop bytes₀ numbers i₀ bytes i = length numbers - i
 
-loop-again : tie.Need-loop-again Inv-loop μ-loop
-loop-again c =
-    let at = c .before .before .before .before .before .before .loop in
-    laying-more 8 _ _ _ _ _ (at .inv) (c .before .before .before .before .before .loop-test .taken) (search needs)
-    (c .before .before .put .ensures)
-
 pub put-numbers-spec : {M : Type 1} → statement M
 put-numbers-spec =
     tie.close
@@ -31,6 +25,8 @@ put-numbers-spec =
     (λ c κs. search needs)
     (λ c. search needs)
     (λ c. search needs)
-    loop-again
+    (λ c.
+    laying-more 8 _ _ _ _ _ (c .before .before .before .before .before .before .loop .inv) (search needs) (search needs)
+    (c .before .before .put .ensures))
     (λ c. search needs)
     (λ c. laying-end 8 _ _ _ _ (c .before .loop .inv) (c .loop-test .left)))
