@@ -1,19 +1,12 @@
 /* One check of the case file on standard input: by plain C, by the proved library, or not at all, so that the cost of reading it can be taken off.
  * usage: bench_check none|plain|proved < FILE      prints the refusal's number and place, the total, and a sum over the 321 numbers */
 #include "plain.h"
+#include "sum.h"
 #include <bolgverk.h>
 #include <stdio.h>
 #include <string.h>
 
 static uint8_t file[5000000];
-
-static uint64_t sum_of(const uint64_t *numbers)
-{
-    uint64_t sum = 0;
-    for (unsigned i = 0; i < BOLGVERK_NUMBERS; i++)
-        sum = sum * 31 + numbers[i];
-    return sum;
-}
 
 int main(int argc, char **argv)
 {
@@ -26,6 +19,6 @@ int main(int argc, char **argv)
         refused = plain_check(file, length, numbers, BOLGVERK_NUMBERS, &place);
     else if (strcmp(argv[1], "proved") == 0)
         refused = bolgverk_check(file, length, numbers, BOLGVERK_NUMBERS, &place);
-    printf("%u %lu %lu %016lx\n", refused, place, numbers[0], sum_of(numbers));
+    printf("%u %lu %lu %016lx\n", refused, place, numbers[0], sum_of(numbers, sizeof numbers));
     return 0;
 }

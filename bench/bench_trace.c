@@ -1,6 +1,7 @@
 /* One trace run on made-up accesses: by plain C, by the proved library, or not at all, so that the cost of making the input can be taken off.
  * usage: bench_trace none|plain|proved POLICY WAYS SETS ACCESSES      prints the misses and a sum over the marks */
 #include "plain.h"
+#include "sum.h"
 #include <bolgverk.h>
 #include <stdio.h>
 #include <stdlib.h>
@@ -14,14 +15,6 @@ static void make_blocks(uint16_t *blocks, size_t accesses, unsigned held)
         seed = seed * 1664525 + 1013904223;
         blocks[i] = (seed >> 16) % (held + held / 2);
     }
-}
-
-static uint64_t sum_of(const uint8_t *marks, size_t accesses)
-{
-    uint64_t sum = 0;
-    for (size_t i = 0; i < accesses; i++)
-        sum = sum * 31 + marks[i];
-    return sum;
 }
 
 int main(int argc, char **argv)

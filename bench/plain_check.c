@@ -1,11 +1,11 @@
 /* The check in plain C: the rules in the paper's order, each with its least place, then the 321 numbers.
  * Rows are read straight from the file, and for each fact the edges of its scope are gone through once, in file order. */
+#include "cache.h"
 #include "plain.h"
 #include <string.h>
 
-enum { LRU, FIFO, NMRU };
-enum { NONE = 65535, WHOLE = 65535, MANY = 8, NOT_SINCE = 9 };
-enum { MOST_NODES = 1024, MOST_EDGES = 4096, MOST_LOOPS = 64, MOST_FACTS = 256, MOST_WAYS = 8, MOST_SETS = 64 };
+enum { WHOLE = 65535, MANY = 8, NOT_SINCE = 9 };
+enum { MOST_NODES = 1024, MOST_EDGES = 4096, MOST_LOOPS = 64, MOST_FACTS = 256 };
 enum { NUMBERS = 321, SETS_AT = 1, FACTS_AT = 65, TRAILER = 32, FACT_HEAD = 6, ROW = 16, SLOTS = 7 };
 
 static const uint64_t most_count = 4294967295;
@@ -62,7 +62,7 @@ static unsigned read_trailer(struct check *c, size_t length)
     if (memcmp(t + 27, "\1QMBT", 5) != 0)
         return refuse(c, 2, 0);
     c->policy = t[24], c->ways = t[25], c->sets = t[26];
-    if (c->policy > NMRU || c->ways < (c->policy == NMRU ? 2u : 1u) || c->ways > MOST_WAYS || c->sets < 1 || c->sets > MOST_SETS)
+    if (bad_cache(c->policy, c->ways, c->sets))
         return refuse(c, 3, 0);
     c->nodes = u16_at(t + 16), c->edges = u16_at(t + 18), c->loops = u16_at(t + 20), c->facts = u16_at(t + 22);
     if (c->nodes < 1 || c->nodes > MOST_NODES || c->edges > MOST_EDGES || c->loops > MOST_LOOPS || c->facts > MOST_FACTS)

@@ -1,9 +1,7 @@
 /* The trace run in plain C, with the representation of the proved code: a set is eight lines and one byte of bits, 64 sets stand in an
  * array, LRU and FIFO shift lines, NMRU sets bits by shift and mask, and by a table of 2,048 entries for eight ways. */
+#include "cache.h"
 #include "plain.h"
-
-enum { LRU, FIFO, NMRU };
-enum { NONE = 65535, MOST_WAYS = 8, MOST_SETS = 64 };
 
 struct set_state {
     uint16_t lines[MOST_WAYS];
@@ -105,7 +103,7 @@ static uint8_t refuse(uint8_t number, uint64_t at, uint64_t *place)
 uint8_t plain_trace_run(uint8_t policy, uint8_t ways, uint8_t sets, const uint16_t *blocks, size_t blocks_length, uint8_t *marks,
                         size_t marks_length, uint64_t *misses, uint64_t *place)
 {
-    if (policy > NMRU || ways < (policy == NMRU ? 2 : 1) || ways > MOST_WAYS || sets < 1 || sets > MOST_SETS)
+    if (bad_cache(policy, ways, sets))
         return refuse(3, 0, place);
     if (marks_length < blocks_length)
         return refuse(20, 0, place);

@@ -4,16 +4,7 @@ use libc::STDIN_FILENO;
 use paper::Trailer;
 use paper::Verdict;
 
-// "Each line: word, number of the set or fact, bound."
-fn line(out: &mut [u8], at: usize, word: &[u8], i: usize, bound: u64) -> usize {
-    let after_word = print::word(out, at, word);
-    let after_number = print::number(out, after_word, i as u64);
-    let after_space = print::word(out, after_number, b" ");
-    let after_bound = print::number(out, after_space, bound);
-    print::word(out, after_bound, b"\n")
-}
-
-// A line for each of the first n bounds.
+// "Each line: word, number of the set or fact, bound": one for each of the first n bounds.
 fn lines(out: &mut [u8], at: usize, word: &[u8], bounds: &[u64], n: usize) -> usize {
     let mut to = at;
     let mut i = 0;
@@ -21,22 +12,16 @@ fn lines(out: &mut [u8], at: usize, word: &[u8], bounds: &[u64], n: usize) -> us
         if i >= bounds.len() {
             return to;
         }
-        to = line(out, to, word, i, bounds[i]);
+        to = print::line_of_two(out, to, word, i as u64, bounds[i]);
         i += 1;
     }
     to
 }
 
-fn total(out: &mut [u8], at: usize, bound: u64) -> usize {
-    let after_word = print::word(out, at, b"total ");
-    let after_bound = print::number(out, after_word, bound);
-    print::word(out, after_bound, b"\n")
-}
-
 // "Every set up to S is listed."
 fn accepted(out: &mut [u8], bounds: &[u64; 321], t: Trailer) -> usize {
     let list = &bounds[..];
-    let after_total = total(out, 0, list[0]);
+    let after_total = print::line(out, 0, b"total ", list[0]);
     let after_sets = lines(out, after_total, b"set ", &list[1..65], t.sets as usize);
     lines(out, after_sets, b"fact ", &list[65..], t.facts as usize)
 }

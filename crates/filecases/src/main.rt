@@ -31,7 +31,7 @@ fn built(
 {
     let mut bytes = [0u8; 52];
     let n = small::put_case(&mut bytes, policy, ways, loops, bound);
-    checked(out, at, words, &bytes[..n])
+    checked(out, at, words, &bytes[0..n])
 }
 
 fn main() {

@@ -42,16 +42,8 @@ pub fn read(into: &mut [u8]) -> bool {
     io::read_full(STDIN_FILENO, into) == into.len()
 }
 
-pub fn write(bytes: &[u8]) -> Frame {
-    if io::write_all(STDOUT_FILENO, bytes) {
-        Frame::Answered
-    } else {
-        Frame::Over
-    }
-}
-
 // Puts the head of an answer at a place: the operation, the refusal, and the value in as many bytes as it takes.
-pub fn put_head(out: &mut [u8], at: usize, operation: u8, h: Head, width: usize)
+fn put_head(out: &mut [u8], at: usize, operation: u8, h: Head, width: usize)
     requires { ⌜ at + 10 + width ≤ length (now out) ⌝ }
 {
     numbers::put(out, at, 1, operation as u64);
@@ -60,10 +52,22 @@ pub fn put_head(out: &mut [u8], at: usize, operation: u8, h: Head, width: usize)
     numbers::put(out, at + 10, width, h.value);
 }
 
+// Puts the head of an answer just before what follows it, and writes the answer.
+pub fn reply(out: &mut [u8], at: usize, operation: u8, h: Head, width: usize) -> Frame
+    requires { ⌜ at + 10 + width ≤ length (now out) ⌝ }
+{
+    put_head(out, at, operation, h, width);
+    if io::write_all(STDOUT_FILENO, &out[at..]) {
+        Frame::Answered
+    } else {
+        Frame::Over
+    }
+}
+
 // The last answer of all: the byte 0, why, and how many requests were answered before.
 pub fn last(why: u8, answered: u64) {
-    let mut reply = [0u8; 10];
-    reply[1] = why;
-    numbers::put(&mut reply, 2, 8, answered);
-    io::write_all(STDOUT_FILENO, &reply);
+    let mut out = [0u8; 10];
+    out[1] = why;
+    numbers::put(&mut out, 2, 8, answered);
+    io::write_all(STDOUT_FILENO, &out);
 }

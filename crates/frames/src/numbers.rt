@@ -20,7 +20,7 @@ pub fn put(out: &mut [u8], at: usize, width: usize, x: u64)
     }
 }
 
-pub fn put_u16(out: &mut [u8], at: usize, x: u16)
+fn put_u16(out: &mut [u8], at: usize, x: u16)
     requires { ⌜ at + 2 ≤ length (now out) ⌝ }
     ensures { λ _. ⌜ now (out .exit) ≡ laid (now (out .entry)) at 2 x ⌝ }
 {
@@ -56,6 +56,18 @@ pub fn read_numbers(bytes: &[u8], numbers: &mut [u64])
     let mut i = 0;
     while i < numbers.len() {
         numbers[i] = u64_at(bytes, 8 * i);
+        i += 1;
+    }
+}
+
+// Puts a list of blocks into the bytes.
+pub fn put_blocks(bytes: &mut [u8], blocks: &[u16])
+    requires { ⌜ 2 * length (now blocks) ≤ length (now bytes) ⌝ }
+    ensures { λ _. ⌜ now (bytes .exit) ≡ laidAll 2 (now (bytes .entry)) 0 (now (blocks .entry)) ⌝ }
+{
+    let mut i = 0;
+    while i < blocks.len() {
+        put_u16(bytes, 2 * i, blocks[i]);
         i += 1;
     }
 }

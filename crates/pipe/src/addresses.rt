@@ -11,21 +11,9 @@ fn head_of(answer: BlockAnswer) -> Head {
     }
 }
 
-// The request: address, line size.
-pub fn answer() -> Frame {
-    let mut request = [0u8; 8];
-    if !frames::read(&mut request) {
-        return Frame::Stopped(2);
-    }
-    let address = layout::u32_at(&request, 0);
-    let line_size = layout::u32_at(&request, 4);
-    let mut reply = [0u8; 12];
-    frames::put_head(
-        &mut reply,
-        0,
-        2,
-        head_of(bolgverk::block_of(Address(address), line_size)),
-        2,
-    );
-    frames::write(&reply)
+// The arguments: address, line size.
+pub fn answer(request: &[u8; 21]) -> Frame {
+    let address = Address(layout::u32_at(request, 0));
+    let found = bolgverk::block_of(address, layout::u32_at(request, 4));
+    frames::reply(&mut [0u8; 12], 0, 2, head_of(found), 2)
 }

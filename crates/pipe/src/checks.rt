@@ -15,7 +15,17 @@ fn head_of(verdict: Verdict) -> Head {
     }
 }
 
-// The bytes have room for the answer's head, 10 bytes, then for the file, then for the numbers.
+// The lent memory: the file, n bytes, then the numbers.
+fn checked(bytes: &mut [u8], n: usize, numbers: &mut [u64]) -> Head
+    requires { ⌜ n + 8 * length (now numbers) ≤ length (now bytes) ⌝ }
+{
+    frames::numbers::read_numbers(&bytes[n..], numbers);
+    let verdict = bolgverk::check(&bytes[0..n], numbers);
+    frames::numbers::put_numbers(&mut bytes[n..], numbers);
+    head_of(verdict)
+}
+
+// The bytes have room for the answer's head, 10 bytes, then for the lent memory.
 // The file is not wanted any more when the head is put just before the numbers, over its end.
 fn run(bytes: &mut [u8], n: usize, numbers: &mut [u64]) -> Frame
     requires { ⌜ 10 + n + 8 * length (now numbers) ≤ length (now bytes) ⌝ }
@@ -23,25 +33,17 @@ fn run(bytes: &mut [u8], n: usize, numbers: &mut [u64]) -> Frame
     if !frames::read(&mut bytes[10..]) {
         return Frame::Stopped(2);
     }
-    let end = n + 10;
-    frames::numbers::read_numbers(&bytes[end..], numbers);
-    let verdict = bolgverk::check(&bytes[10..end], numbers);
-    frames::numbers::put_numbers(&mut bytes[end..], numbers);
-    frames::put_head(bytes, n, 5, head_of(verdict), 0);
-    frames::write(&bytes[n..])
+    let head = checked(&mut bytes[10..], n, numbers);
+    frames::reply(bytes, n, 5, head, 0)
 }
 
-// The request: the number of bytes, the number of numbers; then the file and the numbers.
-pub fn answer(bytes: &mut [u8], numbers: &mut [u64]) -> Frame
+// The arguments: the number of bytes, the number of numbers.
+pub fn answer(request: &[u8; 21], bytes: &mut [u8], numbers: &mut [u64]) -> Frame
     requires { ⌜ Room.room ≤ length (now bytes) ⌝ }
     requires { ⌜ Room.numbers ≤ length (now numbers) ⌝ }
 {
-    let mut request = [0u8; 8];
-    if !frames::read(&mut request) {
-        return Frame::Stopped(2);
-    }
-    let n = layout::u32_at(&request, 0) as usize;
-    let m = layout::u32_at(&request, 4) as usize;
+    let n = layout::u32_at(request, 0) as usize;
+    let m = layout::u32_at(request, 4) as usize;
     if n > FILE {
         return Frame::Stopped(3);
     }
@@ -49,5 +51,5 @@ pub fn answer(bytes: &mut [u8], numbers: &mut [u64]) -> Frame
         return Frame::Stopped(3);
     }
     let end = 10 + n + 8 * m;
-    run(&mut bytes[..end], n, &mut numbers[..m])
+    run(&mut bytes[0..end], n, &mut numbers[0..m])
 }

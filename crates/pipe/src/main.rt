@@ -14,6 +14,20 @@ ghost use Prim.Native.Nat.{_≤_};
 ghost use lib.ListN.{length};
 ghost use Rattle.pipe.specs.Room as Room;
 
+// How many bytes the arguments of an operation take, the lent memory left out. A step's take most.
+fn arguments(operation: u8) -> usize
+    ensures { λ r. ⌜ r ≤ 21 ⌝ }
+{
+    match operation {
+        1 => 21,
+        2 => 8,
+        3 => 3,
+        4 => 11,
+        5 => 8,
+        _ => 0,
+    }
+}
+
 // Reads one request and answers it.
 fn next(bytes: &mut [u8], blocks: &mut [u16], numbers: &mut [u64]) -> Frame
     requires { ⌜ Room.room ≤ length (now bytes) ⌝ }
@@ -24,12 +38,17 @@ fn next(bytes: &mut [u8], blocks: &mut [u16], numbers: &mut [u64]) -> Frame
     if !frames::read(&mut operation) {
         return Frame::Over;
     }
+    let mut request = [0u8; 21];
+    let n = arguments(operation[0]);
+    if !frames::read(&mut request[0..n]) {
+        return Frame::Stopped(2);
+    }
     match operation[0] {
-        1 => steps::answer(),
-        2 => addresses::answer(),
-        3 => sets::answer(),
-        4 => traces::answer(bytes, blocks),
-        5 => checks::answer(bytes, numbers),
+        1 => steps::answer(&request),
+        2 => addresses::answer(&request),
+        3 => sets::answer(&request),
+        4 => traces::answer(&request, bytes, blocks),
+        5 => checks::answer(&request, bytes, numbers),
         _ => Frame::Stopped(1),
     }
 }

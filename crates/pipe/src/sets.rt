@@ -11,20 +11,9 @@ fn head_of(answer: SetAnswer) -> Head {
     }
 }
 
-// The request: block, sets.
-pub fn answer() -> Frame {
-    let mut request = [0u8; 3];
-    if !frames::read(&mut request) {
-        return Frame::Stopped(2);
-    }
-    let block = layout::u16_at(&request, 0);
-    let mut reply = [0u8; 11];
-    frames::put_head(
-        &mut reply,
-        0,
-        3,
-        head_of(bolgverk::set_of(Block(block), request[2])),
-        1,
-    );
-    frames::write(&reply)
+// The arguments: block, sets.
+pub fn answer(request: &[u8; 21]) -> Frame {
+    let block = Block(layout::u16_at(request, 0));
+    let found = bolgverk::set_of(block, request[2]);
+    frames::reply(&mut [0u8; 11], 0, 3, head_of(found), 1)
 }

@@ -5,7 +5,7 @@ use paper::Block;
 use paper::Outcome;
 use paper::SetState;
 use paper::StepAnswer;
-ghost use Prim.Native.Nat.{_+_, _≤_};
+ghost use Prim.Native.Nat.{_≤_};
 ghost use lib.ListN.{length};
 
 fn head_of(outcome: Outcome) -> Head {
@@ -16,62 +16,33 @@ fn head_of(outcome: Outcome) -> Head {
     }
 }
 
-fn lines_at(bytes: &[u8], at: usize) -> [u16; 8]
-    requires { ⌜ at + 16 ≤ length (now bytes) ⌝ }
-{
+// The arguments: policy, ways, eight lines, bits, block.
+fn stepped(request: &[u8; 21]) -> StepAnswer {
     let mut lines = [0u16; 8];
-    let mut i = 0;
-    while i < 8 {
-        lines[i] = layout::u16_at(bytes, at + 2 * i);
-        i += 1;
-    }
-    lines
-}
-
-fn put_lines(out: &mut [u8], at: usize, lines: [u16; 8])
-    requires { ⌜ at + 16 ≤ length (now out) ⌝ }
-{
-    let mut i = 0;
-    while i < 8 {
-        frames::numbers::put_u16(out, at + 2 * i, lines[i]);
-        i += 1;
-    }
-}
-
-// The request: policy, ways, eight lines, bits, block.
-fn stepped(request: &[u8]) -> StepAnswer
-    requires { ⌜ 21 ≤ length (now request) ⌝ }
-{
+    let bytes = &request[..];
+    frames::numbers::read_blocks(&bytes[2..], &mut lines);
     let state = SetState {
-        lines: lines_at(request, 2),
+        lines: lines,
         bits: request[18],
     };
-    bolgverk::step(
-        request[0],
-        request[1],
-        state,
-        Block(layout::u16_at(request, 19)),
-    )
+    let block = Block(layout::u16_at(request, 19));
+    bolgverk::step(request[0], request[1], state, block)
+}
+
+fn put_state(out: &mut [u8], lines: [u16; 8], bits: u8)
+    requires { ⌜ 28 ≤ length (now out) ⌝ }
+{
+    frames::numbers::put_blocks(&mut out[11..27], &lines);
+    out[27] = bits;
 }
 
 // The answer: the head with hit, miss or refusal, eight lines, bits.
-fn put_answer(out: &mut [u8], a: StepAnswer)
-    requires { ⌜ 28 ≤ length (now out) ⌝ }
-{
+pub fn answer(request: &[u8; 21]) -> Frame {
+    let a = stepped(request);
     let state = a.state;
-    let outcome = a.outcome;
-    frames::put_head(out, 0, 1, head_of(outcome), 1);
     let lines = state.lines;
-    put_lines(out, 11, lines);
-    frames::numbers::put(out, 27, 1, state.bits as u64);
-}
-
-pub fn answer() -> Frame {
-    let mut request = [0u8; 21];
-    if !frames::read(&mut request) {
-        return Frame::Stopped(2);
-    }
-    let mut reply = [0u8; 28];
-    put_answer(&mut reply, stepped(&request));
-    frames::write(&reply)
+    let mut out = [0u8; 28];
+    put_state(&mut out, lines, state.bits);
+    let outcome = a.outcome;
+    frames::reply(&mut out, 0, 1, head_of(outcome), 1)
 }

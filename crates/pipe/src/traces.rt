@@ -14,33 +14,40 @@ fn head_of(answer: TraceAnswer) -> Head {
     }
 }
 
-// The bytes have room for the answer's head, 18 bytes, then for the blocks, then for the marks.
+// The lent memory: the blocks, then the marks.
+fn traced(request: &[u8; 21], bytes: &mut [u8], blocks: &mut [u16]) -> Head
+    requires { ⌜ 2 * length (now blocks) ≤ length (now bytes) ⌝ }
+{
+    frames::numbers::read_blocks(bytes, blocks);
+    let marks = 2 * blocks.len();
+    head_of(bolgverk::trace_run(
+        request[0],
+        request[1],
+        request[2],
+        blocks,
+        &mut bytes[marks..],
+    ))
+}
+
+// The bytes have room for the answer's head, 18 bytes, then for the lent memory.
 // The blocks are not wanted any more when the head is put just before the marks, over their end.
-fn run(policy: u8, ways: u8, sets: u8, bytes: &mut [u8], blocks: &mut [u16]) -> Frame
+fn run(request: &[u8; 21], bytes: &mut [u8], blocks: &mut [u16]) -> Frame
     requires { ⌜ 18 + 2 * length (now blocks) ≤ length (now bytes) ⌝ }
 {
     if !frames::read(&mut bytes[18..]) {
         return Frame::Stopped(2);
     }
-    frames::numbers::read_blocks(&bytes[18..], blocks);
-    let start = 2 * blocks.len();
-    let marks = start + 18;
-    let answer = bolgverk::trace_run(policy, ways, sets, blocks, &mut bytes[marks..]);
-    frames::put_head(bytes, start, 4, head_of(answer), 8);
-    frames::write(&bytes[start..])
+    let head = traced(request, &mut bytes[18..], blocks);
+    frames::reply(bytes, 2 * blocks.len(), 4, head, 8)
 }
 
-// The request: policy, ways, sets, the number of blocks, the number of marks; then the blocks and the marks.
-pub fn answer(bytes: &mut [u8], blocks: &mut [u16]) -> Frame
+// The arguments: policy, ways, sets, the number of blocks, the number of marks.
+pub fn answer(request: &[u8; 21], bytes: &mut [u8], blocks: &mut [u16]) -> Frame
     requires { ⌜ Room.room ≤ length (now bytes) ⌝ }
     requires { ⌜ Room.accesses ≤ length (now blocks) ⌝ }
 {
-    let mut request = [0u8; 11];
-    if !frames::read(&mut request) {
-        return Frame::Stopped(2);
-    }
-    let n = layout::u32_at(&request, 3) as usize;
-    let m = layout::u32_at(&request, 7) as usize;
+    let n = layout::u32_at(request, 3) as usize;
+    let m = layout::u32_at(request, 7) as usize;
     if n > ACCESSES {
         return Frame::Stopped(3);
     }
@@ -48,11 +55,5 @@ pub fn answer(bytes: &mut [u8], blocks: &mut [u16]) -> Frame
         return Frame::Stopped(3);
     }
     let end = 18 + 2 * n + m;
-    run(
-        request[0],
-        request[1],
-        request[2],
-        &mut bytes[..end],
-        &mut blocks[..n],
-    )
+    run(request, &mut bytes[0..end], &mut blocks[0..n])
 }

@@ -25,18 +25,28 @@ pub fn number(out: &mut [u8], at: usize, n: u64) -> usize {
     word(out, at, &digits[..k])
 }
 
+// A line with one number.
+pub fn line(out: &mut [u8], at: usize, before: &[u8], n: u64) -> usize {
+    let after_word = word(out, at, before);
+    let after_number = number(out, after_word, n);
+    word(out, after_number, b"\n")
+}
+
+// A line with two numbers.
+pub fn line_of_two(out: &mut [u8], at: usize, before: &[u8], first: u64, second: u64) -> usize {
+    let after_word = word(out, at, before);
+    let after_first = number(out, after_word, first);
+    line(out, after_first, b" ", second)
+}
+
 // "A refusal prints `refused`, number, place."
 pub fn refusal(out: &mut [u8], at: usize, r: Refusal) -> usize {
-    let after_word = word(out, at, b"refused ");
-    let after_number = number(out, after_word, r.number as u64);
-    let after_space = word(out, after_number, b" ");
-    let after_place = number(out, after_space, r.place as u64);
-    word(out, after_place, b"\n")
+    line_of_two(out, at, b"refused ", r.number as u64, r.place as u64)
 }
 
 // Writes what stands before a place to standard output.
 pub fn send(out: &[u8], at: usize) {
     if at <= out.len() {
-        io::write_all(STDOUT_FILENO, &out[..at]);
+        io::write_all(STDOUT_FILENO, &out[0..at]);
     }
 }
