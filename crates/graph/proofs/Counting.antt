@@ -1,5 +1,5 @@
 -- The table of counts, loop by loop, and rule 10 by it. Assumes nothing.
-use Prim.Native.Nat.{ℕ, zero, suc, _+_, _≤_, _<_}
+use Prim.Native.Nat.{ℕ, zero, suc, _≤_, _<_}
 use native.Mathlib.Omega.{arith}
 use native.Mathlib.Nat.{mul-pos}
 use native.Mathlib.Decide.{decLe}
@@ -9,7 +9,6 @@ use borrow.Author.Tests.{lt-ltb, le-ltb, ne-eqb}
 use mathlib.Core.List.{List}
 use lib.Dec.{eqb, lit≤}
 use lib.ListN.{getD}
-use Rattle.paper.specs.declared.Loop.{Loop}
 use Rattle.paper.specs.declared.Trailer.{Trailer}
 use Rattle.paper.specs.Lists.{productTo, least}
 use Rattle.paper.specs.Cases.{Case, inside}
@@ -34,37 +33,36 @@ unfolding productTo
 product-pos g zero h = omega arith
 product-pos g (suc n) h = mul-pos (product-pos g n (λ j q. h j (omega arith))) (h n (omega arith))
 
-module _ (e : Case) where
-  module _ (w : Looped e) where
-    count-pos : (v : ℕ) → 0 < count e v
-    unfolding count
-    count-pos v = product-pos (λ j. factor (e .loop j) v) (e .loops) (λ j q. pick (inside (e .loop j) v) (omega (arith, w .fits j q)))
-      where
-        pick : {b : ℕ} (s : Bool) → 0 < b → 0 < cond s b 1
-        pick true h = h
-        pick false h = omega arith
+module _ (e : Case) (w : Looped e) where
+  count-pos : (v : ℕ) → 0 < count e v
+  unfolding count
+  count-pos v = product-pos (λ j. factor (e .loop j) v) (e .loops) (λ j q. pick (inside (e .loop j) v) (omega (arith, w .fits j q)))
+    where
+      pick : {b : ℕ} (s : Bool) → 0 < b → 0 < cond s b 1
+      pick true h = h
+      pick false h = omega arith
 
-    -- rule 10 by the table
-    count-test : (v : ℕ) → eqb (shown (count e v)) 0 ≡ badCount e v
-    unfolding badCount
-    count-test v =
-        elim (decLe (count e v) 4294967295) [
-          | yes h ↦ rw (shown-small (count e v) h, le-ltb _ _ h) (ne-eqb (count e v) 0 (λ z. omega (arith, count-pos v)))
-          | no h ↦
-              let m : 4294967295 < count e v = omega arith in
-              rw (shown-large (count e v) m, lt-ltb _ _ m) refl
-        ]
+  -- rule 10 by the table
+  count-test : (v : ℕ) → eqb (shown (count e v)) 0 ≡ badCount e v
+  unfolding badCount
+  count-test v =
+      elim (decLe (count e v) 4294967295) [
+        | yes h ↦ rw (shown-small (count e v) h, le-ltb _ _ h) (ne-eqb (count e v) 0 (λ z. omega (arith, count-pos v)))
+        | no h ↦
+            let m : 4294967295 < count e v = omega arith in
+            rw (shown-large (count e v) m, lt-ltb _ _ m) refl
+      ]
 
-    -- the marks of rule 10 are the counts
-    count-marks : (v n : ℕ) → n ≤ e .loops → markedTo (marks e 10) 1 v n ≡ shown (countTo e v n)
-    unfolding countTo productTo marks loopMark
-    count-marks v zero h = marked-start _ 1 v ∙ sym (shown-small 1 (lit≤ tt))
-    count-marks v (suc n) h = go (inside-says (e .loop n) v) (count-marks v n (omega arith))
-      where
-        go : {s : Bool} → Says (In (e .loop n) v) s → markedTo (marks e 10) 1 v n ≡ shown (countTo e v n) →
-            markedTo (marks e 10) 1 v (suc n) ≡ shown (countTo e v (suc n))
-        go (holds p) ih = marked-in (marks e 10) 1 v n (p .0, omega (arith, p .1)) ∙ ap shown (sym (count-same e (w .rises) (w .nested) n h v p))
-        go (fails k) ih = marked-out (marks e 10) 1 v n (λ p. k (p .0, omega (arith, p .1))) ∙ ih ∙ ap shown (sym (count-out e v n k))
+  -- the marks of rule 10 are the counts
+  count-marks : (v n : ℕ) → n ≤ e .loops → markedTo (marks e 10) 1 v n ≡ shown (countTo e v n)
+  unfolding countTo productTo marks loopMark
+  count-marks v zero h = marked-start _ 1 v ∙ sym (shown-small 1 (lit≤ tt))
+  count-marks v (suc n) h = go (inside-says (e .loop n) v) (count-marks v n (omega arith))
+    where
+      go : {s : Bool} → Says (In (e .loop n) v) s → markedTo (marks e 10) 1 v n ≡ shown (countTo e v n) →
+          markedTo (marks e 10) 1 v (suc n) ≡ shown (countTo e v (suc n))
+      go (holds p) ih = marked-in (marks e 10) 1 v n (p .0, omega (arith, p .1)) ∙ ap shown (sym (count-same e (w .rises) (w .nested) n h v p))
+      go (fails k) ih = marked-out (marks e 10) 1 v n (λ p. k (p .0, omega (arith, p .1))) ∙ ih ∙ ap shown (sym (count-out e v n k))
 
 -- the table by which rule 10 is tested
 module _ (f : List ℕ) (t : Trailer) (w : Looped (caseOf f t)) (l : List ℕ)

@@ -3,7 +3,7 @@ use Prim.Native.Nat.{ℕ, zero, suc, _+_, _≤_, _<_}
 use native.Mathlib.Omega.{arith}
 use native.Mathlib.Numerals.{add-one}
 use native.Mathlib.Decide.{ℕ-discrete}
-use mathlib.Core.Path.{_≡_, refl, sym, _∙_, ap}
+use mathlib.Core.Path.{_≡_, refl, _∙_}
 use mathlib.Core.Bool.{Bool, cond, _&&_}
 use mathlib.Core.List.{List}
 use borrow.Author.Tests.{ne-eqb}
@@ -17,7 +17,7 @@ use Rattle.paper.proofs.Says.{Says, holds, fails, says-lt, says-le, says-and, s
 use Rattle.loops.specs.Counts.{shown, noLoop, countIn}
 use Rattle.loops.specs.Handed.{Handed}
 use Rattle.loops.proofs.Handing.{handed-header}
-use Rattle.graph.specs.declared.Mark.{Mark}
+use Rattle.graph.specs.declared.marks.Mark.{Mark}
 use Rattle.graph.specs.Filled.{Filled, Holds}
 use Rattle.graph.specs.Looped.{Looped}
 use Rattle.graph.specs.Marks.{loopMark, marks, markedTo}

@@ -6,7 +6,7 @@ use Rattle.paper.specs.declared.Loop.{Loop}
 use Rattle.paper.specs.Cases.{Case}
 use Rattle.paper.specs.Graphs.{badEntry, badReturn}
 use Rattle.loops.specs.Counts.{shown, countTo}
-use Rattle.graph.specs.declared.Mark.{Mark}
+use Rattle.graph.specs.declared.marks.Mark.{Mark}
 
 -- What loop l marks, where n is its header's count. 10: n, at all its nodes; 9: the node after its last, at its header; 8: its header, at its other nodes.
 unfoldable pub loopMark : ℕ → Loop → ℕ → Mark

@@ -1,5 +1,4 @@
 -- `rules_8_to_10` answers as `graphRules`: at each return, the rules that were kept and the one that was broken. Assumes nothing.
-use mathlib.Core.Path.{refl}
 use borrow.Author.Needs.{needs}
 use Rattle.paper.specs.Verdicts.{graphRules}
 use Rattle.graph.specs.Marks.{edgeRule}
