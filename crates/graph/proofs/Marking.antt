@@ -92,8 +92,12 @@ mark-fits e w rule j x q p =
           ]
     ]
 
--- the mark that is made from the records
-pub handed-mark : (f : List ℕ) (t : Trailer) (loops : List Loop) (rule j : ℕ) (x : Mark) → Handed f t loops → j < t .loops →
-    x ≡ loopMark rule (getD loops j noLoop) (shown (countIn loops (suc j) (getD loops j noLoop .first))) → x ≡ marks (caseOf f t) rule j
-unfolding marks caseOf
-handed-mark f t loops rule j x w q e = e ∙ rw (handed-header f t loops w j q, w .at j q) refl
+-- the mark that is made from the records, where n is the header's count if the rule asks for it
+pub handed-mark : (f : List ℕ) (t : Trailer) (loops : List Loop) (rule j n : ℕ) (x : Mark) → Handed f t loops → j < t .loops →
+    (rule ≡ 10 → n ≡ shown (countIn loops (suc j) (getD loops j noLoop .first))) → x ≡ loopMark rule (getD loops j noLoop) n → x ≡ marks (caseOf f t) rule j
+unfolding marks loopMark caseOf
+handed-mark f t loops rule j n x w q h e =
+    elim (ℕ-discrete rule 10) [
+      | yes p ↦ e ∙ rw (h p, handed-header f t loops w j q, w .at j q) refl
+      | no k ↦ e ∙ rw (ne-eqb rule 10 k, w .at j q) refl
+    ]

@@ -1,10 +1,9 @@
 // A table over the nodes that the loops mark in turn, for rules 8 to 10.
 ghost use mathlib.Core.Path.{_≡_};
-ghost use Prim.Native.Nat.{suc, _≤_, _<_};
-ghost use lib.ListN.{length, getD};
+ghost use Prim.Native.Nat.{_≤_};
+ghost use lib.ListN.{length};
 ghost use Rattle.paper.specs.Files.{caseOf};
 ghost use Rattle.layout.specs.Laid.{Laid};
-ghost use Rattle.loops.specs.Counts.{shown, noLoop, countIn};
 ghost use Rattle.graph.specs.Filled.{Filled, Holds};
 ghost use Rattle.graph.specs.Looped.{Looped};
 ghost use Rattle.graph.specs.Marks as Marks;
@@ -31,19 +30,17 @@ fn fill(table: &mut [u32], from: usize, to: usize, x: u32)
     }
 }
 
-// What loop j marks. 8: at its other nodes its header; 9: at its header the node after its last; 10: at all its nodes its header's count over the loops up to it.
-fn loop_mark(loops: [Loop; 64], j: u16, rule: u8) -> Mark
-    requires { ⌜ j < 64 ⌝ }
-    ensures { λ r. ⌜ r ≡ Marks.loopMark rule (getD loops j noLoop) (shown (countIn loops (suc j) (getD loops j noLoop .first))) ⌝ }
+// What loop l marks, where n is its header's count over the loops up to it. 8: at its other nodes its header; 9: at its header the node after its last; 10: at all its nodes n.
+fn loop_mark(l: Loop, n: u32, rule: u8) -> Mark
+    ensures { λ r. ⌜ r ≡ Marks.loopMark rule l n ⌝ }
 {
-    let l = loops[j as usize];
     let first = l.first as usize;
     let after = l.last as usize + 1;
     if rule == 10 {
         return Mark {
             from: first,
             to: after,
-            value: loops::header_count(loops, j),
+            value: n,
         };
     }
     if rule == 9 {
@@ -71,7 +68,12 @@ pub fn mark_nodes(file: &[u8], t: Trailer, table: &mut [u32], rule: u8, start: u
     let loops = loops::loops_of(file, t);
     let mut j: u16 = 0;
     while j < t.loops {
-        let m = loop_mark(loops, j, rule);
+        let n = if rule == 10 {
+            loops::header_count(loops, j)
+        } else {
+            0
+        };
+        let m = loop_mark(loops[j as usize], n, rule);
         fill(table, m.from, m.to, m.value);
         j += 1;
     }

@@ -7,7 +7,7 @@ use Rattle.graph.proofs.marks.loop_mark.Tie as tie
 
 returns : tie.Need-returns
 unfolding loopMark
-returns c = rw (eq-eqb _ _ (c .before .if1 .taken), c .header-count .ensures) refl
+returns c = rw (eq-eqb _ _ (c .if1 .taken)) refl
 
 returns-2 : tie.Need-returns-2
 unfolding loopMark
@@ -24,9 +24,6 @@ loop-mark-spec =
     (λ c. search needs)
     (λ c. search needs)
     (λ c. search needs)
-    (λ c. search needs)
-    (λ c. search needs)
-    (λ c κs. search needs)
     returns
     (λ c. search needs)
     (λ c. search needs)
