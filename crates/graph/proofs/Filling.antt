@@ -5,7 +5,7 @@ use native.Mathlib.Decide.{ℕ-discrete, decLe, decLt}
 use mathlib.Core.Path.{_≡_, refl, sym, _∙_}
 use mathlib.Core.Logic.{_≢_}
 use mathlib.Core.List.{List}
-use lib.ListN.{length, set, length-set}
+use lib.ListN.{length, getD, set, length-set}
 use lib.Seq.{getD-set-same, getD-set-other}
 use Rattle.graph.specs.Filled.{Filled, Holds}
 
@@ -31,25 +31,17 @@ filled-end old l a k z x w p q =
     let e : z ≡ k = omega arith in
     rw e w
 
-module _ (n : ℕ) {old new : List ℕ} {a z x : ℕ} (w : Filled old new a z x) where
-  pub holds-start : (g : ℕ → ℕ) → a ≡ 0 → n ≤ z → n ≤ length old → ((v : ℕ) → g v ≡ x) → Holds g n new
-  holds-start g p q r h = record { room = omega (arith, w .same); at = λ v l. w .within v (omega arith) (omega arith) ∙ sym (h v) }
+module _ {old new : List ℕ} {a z x : ℕ} (w : Filled old new a z x) where
+  pub filled-out : (k : ℕ) → ¬ ((a ≤ k) × (k < z)) → getD new k 0 ≡ getD old k 0
+  filled-out k n =
+      elim (decLt k a) [
+        | yes p ↦ w .below k p
+        | no p ↦ elim (decLe z k) [ yes q ↦ w .above k q | no q ↦ absurd (n (omega arith, omega arith)) ]
+      ]
 
-  -- g is what the table held, h what it holds
-  pub holds-more : (g h : ℕ → ℕ) → Holds g n old → ((v : ℕ) → a ≤ v → v < z → h v ≡ x) → ((v : ℕ) → v < a → h v ≡ g v) → ((v : ℕ) → z ≤ v → h v ≡ g v) → Holds h n new
-  holds-more g h t in-it before after =
-      record {
-        room = omega (arith, w .same, t .room);
-        at = λ v l.
-            elim (decLt v a) [
-              | yes p ↦ w .below v p ∙ t .at v l ∙ sym (before v p)
-              | no p ↦
-                  elim (decLe z v) [
-                    | yes q ↦ w .above v q ∙ t .at v l ∙ sym (after v q)
-                    | no q ↦ w .within v (omega arith) (omega arith) ∙ sym (in-it v (omega arith) (omega arith))
-                  ]
-            ];
-      }
+  -- a whole table of one number
+  pub holds-start : (n : ℕ) (g : ℕ → ℕ) → a ≡ 0 → n ≤ z → n ≤ length old → ((v : ℕ) → g v ≡ x) → Holds g n new
+  holds-start n g p q r h = record { room = omega (arith, w .same); at = λ v l. w .within v (omega arith) (omega arith) ∙ sym (h v) }
 
 -- the loop over the loops has come to its end
 pub holds-end : (g : ℕ → ℕ → ℕ) (m n j : ℕ) (l : List ℕ) → Holds (λ v. g v j) m l → j ≤ n → n ≤ j → Holds (λ v. g v n) m l

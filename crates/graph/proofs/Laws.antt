@@ -1,7 +1,7 @@
 -- Rules 6 to 10 and what follows them: an accepted graph leaves the verdict to the rest, a refused one does not. Assumes nothing.
 use Prim.Native.Nat.{ℕ, _≤_, _<_}
 use native.Mathlib.Omega.{arith}
-use mathlib.Core.Path.{_≡_, refl, sym}
+use mathlib.Core.Path.{_≡_, refl, sym, _∙_, ap}
 use mathlib.Core.Bool.{Bool, true, false, cond}
 use mathlib.Core.List.{List}
 use borrow.Author.Tests.{lt-ltb, le-ltb}
@@ -9,6 +9,7 @@ use Rattle.paper.specs.declared.Refusal.{Refusal}
 use Rattle.paper.specs.declared.Trailer.{Trailer}
 use Rattle.paper.specs.declared.Verdict.{Verdict}
 use Rattle.paper.specs.declared.Verdict.the-variants.{Accepted, Refused}
+use Rattle.paper.specs.Answers.{refuse}
 use Rattle.paper.specs.Lists.{least, some}
 use Rattle.paper.specs.Graphs.{badEdge, badLoop, badEntry, badReturn, badCount}
 use Rattle.paper.specs.Files.{caseOf}
@@ -20,9 +21,21 @@ module _ (p : ℕ → Bool) (n i : ℕ) where
   unfolding some
   keeps e h = rw (← e) (le-ltb i n h)
 
-  pub breaks : i ≡ least p n → i < n → some p n ≡ true
+  breaks : i ≡ least p n → i < n → some p n ≡ true
   unfolding some
   breaks e h = rw (← e) (lt-ltb i n h)
+
+-- a rule that is known to be kept
+pub follows : (number n : ℕ) (p : ℕ → Bool) (rest v : Verdict) → some p n ≡ false → v ≡ rest → v ≡ ruleAt number p n rest
+follows number n p rest v h s = rw h s
+
+-- the same rule in a chain: where it is kept the verdict is that of the rest, where it is broken the file is refused there
+module _ (number n : ℕ) (p : ℕ → Bool) (rest : Verdict) (i : ℕ) (e : i ≡ least p n) where
+  pub passes : (v : Verdict) → n ≤ i → v ≡ rest → v ≡ ruleAt number p n rest
+  passes v h s = rw (keeps p n i e h) s
+
+  pub stops : (r : Refusal) → i < n → r ≡ refuse number i → Refused r ≡ ruleAt number p n rest
+  stops r h s = rw (breaks p n i e h) (ap Refused (s ∙ ap (refuse number) e))
 
 pub never : {P : Type 0} (r : Refusal) → Refused r ≡ Accepted → P
 never r e = let z : _≡_ {A = ℕ} 0 1 = cc in absurd (omega arith)

@@ -1,4 +1,4 @@
 pub mod After
-pub mod Greatest
+pub mod Marks
 pub mod Looped
 pub mod Filled

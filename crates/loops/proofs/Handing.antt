@@ -42,7 +42,7 @@ module _ (f : List ℕ) (t : Trailer) where
 
   module _ (loops : List Loop) (w : Handed f t loops) where
     -- a count over the records is one over the case's loops
-    pub handed-count : (v n : ℕ) → n ≤ t .loops → countIn loops n v ≡ countTo (caseOf f t) v n
+    handed-count : (v n : ℕ) → n ≤ t .loops → countIn loops n v ≡ countTo (caseOf f t) v n
     unfolding countTo caseOf
     handed-count v n h = counts-agree loops (loopAt f t) n v (λ j q. w .at j (omega arith))
 

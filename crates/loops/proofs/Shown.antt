@@ -29,7 +29,7 @@ times-large p (suc b) h =
     shown-large (p * suc b) (omega (arith, le-mul-of-pos-right p q))
 
 -- a product that is too large stays so: 0 stands for it, and absorbs
-pub shown-times : (p b : ℕ) → shown (shown p * b) ≡ shown (p * b)
+shown-times : (p b : ℕ) → shown (shown p * b) ≡ shown (p * b)
 shown-times p b =
     elim (decLe p 4294967295) [
       | yes h ↦ rw (shown-small p h) refl

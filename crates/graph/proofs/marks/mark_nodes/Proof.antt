@@ -1,0 +1,78 @@
+use Prim.Native.Nat.{_-_, _≤_}
+use native.Mathlib.Omega.{arith}
+use mathlib.Core.Path.{_≡_, refl, _∙_}
+use mathlib.Core.Logic.{⊎-elim}
+use borrow.Author.Needs.{needs}
+use lib.ListN.{length}
+use Rattle.paper.specs.Files.{caseOf}
+use Rattle.graph.specs.Filled.{Holds}
+use Rattle.graph.specs.Marks.{marks, markedTo}
+use Rattle.graph.proofs.Filling.{holds-start, holds-end}
+use Rattle.graph.proofs.Marking.{marked-start, marked-step, mark-fits, handed-mark}
+use Rattle.graph.proofs.marks.mark_nodes.Statement.{statement}
+use Rattle.graph.proofs.marks.mark_nodes.Tie as tie
+
+abbrev Inv-loop : tie.InvT-loop
+Inv-loop file t table₀ rule start loops j₀ table j =
+    (j ≤ t .loops) × (length table ≡ length table₀) × Holds (λ v. markedTo (marks (caseOf file t) rule) start v j) (t .nodes) table
+
+abbrev μ-loop : tie.MeasureT-loop
+μ-loop file t table₀ rule start loops j₀ table j = t .loops - j
+
+loop-holds : tie.Need-loop-holds Inv-loop μ-loop
+loop-holds c =
+    let f = c .before .before .before .fill .ensures in
+    (omega arith, refl, holds-start f _ _ refl (omega arith) (omega (arith, c .before .before .before .before .before .before .before .before .pre)) (marked-start _ _))
+
+-- the mark is that of loop j
+is-mark : (c : tie.After-loop-mark Inv-loop μ-loop) → c .loop-mark .result ≡ marks (caseOf (c .before .before .before .before .before .before .before .before .before .before .before .before .before .before .args .file .now) (c .before .before .before .before .before .before .before .before .before .before .before .before .before .before .args .t)) (c .before .before .before .before .before .before .before .before .before .before .before .before .before .before .args .rule) (c .before .before .before .before .before .loop .j)
+is-mark c =
+    let i = c .before .before .before .before .before in
+    handed-mark _ _ _ _ _ _ _ (i .before .loops-of .ensures) (c .before .before .before .if1 .taken)
+    (λ p. ⊎-elim (λ w. w .2 ∙ w .1 .ensures) (λ w. absurd (w .0 .left p)) (c .before .before .if2 .came))
+    (c .loop-mark .ensures)
+
+fill-requires-2 : tie.Need-fill-requires-2 Inv-loop μ-loop
+unfolding caseOf
+fill-requires-2 c κs =
+    let m = c .before in
+    let i = m .before .before .before .before .before in
+    let f = mark-fits _ (i .before .before .before .before .before .before .before .before .before .pre .1 .0) _ _ _ (m .before .before .before .if1 .taken) (is-mark m) in
+    (f .0, omega (arith, f .1, i .loop .inv .2 .room))
+
+loop-again : tie.Need-loop-again Inv-loop μ-loop
+loop-again c =
+    let f = c .before .before in
+    let m = f .before .before in
+    let i = m .before .before .before .before .before in
+    (omega arith, f .fill2 .ensures .same ∙ i .loop .inv .1, marked-step _ _ _ _ _ _ _ (is-mark m) (f .fill2 .ensures) (i .loop .inv .2))
+
+same-length : tie.Need-same-length Inv-loop μ-loop
+same-length c = c .before .before .loop .inv .1 ∙ c .before .before .before .before .before .before .fill .ensures .same
+
+returns : tie.Need-returns Inv-loop μ-loop
+returns c =
+    let i = c .before .before .loop .inv in
+    holds-end (markedTo _ _) _ _ _ _ (i .2) (i .0) (c .if1 .left)
+
+pub mark-nodes-spec : {M : Type 1} → statement M
+mark-nodes-spec =
+    tie.close
+    (tie.spec
+    Inv-loop
+    μ-loop
+    (λ c. search needs)
+    (λ c κs. search needs)
+    (λ c κs. search needs)
+    loop-holds
+    (λ c κs. let i = c .before .before .before in omega (arith, i .before .before .before .before .before .before .before .before .before .pre .0 .loops-high))
+    (λ c. search needs)
+    (λ c. search needs)
+    (λ c. let i = c .before .before .before in omega (arith, i .before .loops-of .ensures .room, i .before .before .before .before .before .before .before .before .before .pre .0 .loops-high))
+    (λ c κs. search needs)
+    fill-requires-2
+    (λ c. search needs)
+    (λ c. search needs)
+    loop-again
+    same-length
+    returns)

@@ -1,0 +1,41 @@
+// Rule 10: the counts.
+ghost use mathlib.Core.Path.{_≡_};
+ghost use Prim.Native.Nat.{_≤_};
+ghost use lib.Dec.{eqb};
+ghost use lib.ListN.{length, getD};
+ghost use Rattle.paper.specs.Lists.{least};
+ghost use Rattle.paper.specs.Graphs as Graphs;
+ghost use Rattle.paper.specs.Files.{caseOf};
+ghost use Rattle.layout.specs.Laid.{Laid};
+ghost use Rattle.layout.specs.Counted.{Counted};
+ghost use Rattle.graph.specs.Looped.{Looped};
+use crate::marks::mark_nodes;
+use paper::Trailer;
+
+// The least node whose count is too large, or their number.
+fn first_zero(t: Trailer, table: &[u32]) -> u16
+    requires { ⌜ t .nodes ≤ length (now table) ⌝ }
+    ensures { λ r. ⌜ r ≡ least (λ v. eqb (getD (now (table .entry)) v 0) 0) (t .nodes) ⌝ }
+{
+    let n = t.nodes;
+    let mut v: u16 = 0;
+    while v < n {
+        if table[v as usize] == 0 {
+            return v;
+        }
+        v += 1;
+    }
+    v
+}
+
+// The least node that breaks rule 10, or their number.
+pub fn rule_10(file: &[u8], t: Trailer, counts: &mut [u32]) -> u16
+    requires { ⌜ Laid (now file) t ⌝ }
+    requires { ⌜ Looped (caseOf (now file) t) ⌝ }
+    requires { ⌜ 1024 ≤ length (now counts) ⌝ }
+    ensures { λ r. ⌜ r ≡ least (Graphs.badCount (caseOf (now (file .entry)) t)) (t .nodes) ⌝ }
+    ensures { λ r. ⌜ (t .nodes ≤ r → Counted (now (file .entry)) t (now (counts .exit))) ⌝ }
+{
+    mark_nodes(file, t, counts, 10, 1);
+    first_zero(t, counts)
+}

@@ -1,0 +1,80 @@
+// A table over the nodes that the loops mark in turn, for rules 8 to 10.
+ghost use mathlib.Core.Path.{_≡_};
+ghost use Prim.Native.Nat.{_≤_};
+ghost use lib.ListN.{length};
+ghost use Rattle.paper.specs.Files.{caseOf};
+ghost use Rattle.layout.specs.Laid.{Laid};
+ghost use Rattle.graph.specs.Filled.{Filled, Holds};
+ghost use Rattle.graph.specs.Looped.{Looped};
+ghost use Rattle.graph.specs.Marks as Marks;
+use paper::Loop;
+use paper::Trailer;
+
+// What a loop writes into a table over the nodes: `value`, at the places from `from` to before `to`.
+struct Mark {
+    from: usize,
+    to: usize,
+    value: u32,
+}
+
+// The places from `from` to before `to` become x.
+fn fill(table: &mut [u32], from: usize, to: usize, x: u32)
+    requires { ⌜ from ≤ to ⌝ }
+    requires { ⌜ to ≤ length (now table) ⌝ }
+    ensures { λ r. ⌜ Filled (now (table .entry)) (now (table .exit)) from to x ⌝ }
+{
+    let mut k = from;
+    while k < to {
+        table[k] = x;
+        k += 1;
+    }
+}
+
+// What loop l marks, where n is its header's count over the loops up to it. 8: at its other nodes its header; 9: at its header the node after its last; 10: at all its nodes n.
+fn loop_mark(l: Loop, n: u32, rule: u8) -> Mark
+    ensures { λ r. ⌜ r ≡ Marks.loopMark rule l n ⌝ }
+{
+    let first = l.first as usize;
+    let after = l.last as usize + 1;
+    if rule == 10 {
+        return Mark {
+            from: first,
+            to: after,
+            value: n,
+        };
+    }
+    if rule == 9 {
+        return Mark {
+            from: first,
+            to: first + 1,
+            value: l.last as u32 + 1,
+        };
+    }
+    Mark {
+        from: first + 1,
+        to: after,
+        value: l.first as u32,
+    }
+}
+
+// All nodes begin with `start`, and the loops mark theirs in turn: loops come by rising headers, so an inner loop marks over those around it.
+pub fn mark_nodes(file: &[u8], t: Trailer, table: &mut [u32], rule: u8, start: u32)
+    requires { ⌜ Laid (now file) t ⌝ }
+    requires { ⌜ Looped (caseOf (now file) t) ⌝ }
+    requires { ⌜ 1024 ≤ length (now table) ⌝ }
+    ensures { λ r. ⌜ Holds (λ v. Marks.markedTo (Marks.marks (caseOf (now (file .entry)) t) rule) start v (t .loops)) (t .nodes) (now (table .exit)) ⌝ }
+{
+    fill(table, 0, t.nodes as usize, start);
+    let loops = loops::loops_of(file, t);
+    let mut j: u16 = 0;
+    while j < t.loops {
+        let n = if rule == 10 {
+            loops::header_count(loops, j)
+        } else {
+            0
+        };
+        let m = loop_mark(loops[j as usize], n, rule);
+        fill(table, m.from, m.to, m.value);
+        j += 1;
+    }
+}
