@@ -150,6 +150,18 @@ pub fn nmru_lines(lines: &mut [u16; 8], bits: u8, k: usize, b: u16, next: &[u8; 
     }
 }
 
+fn stepped(lines: [u16; 8], bits: u8, hit: bool) -> Stepped
+    ensures { λ r. ⌜ r ≡ steppedOf lines bits hit ⌝ }
+{
+    Stepped {
+        state: SetState {
+            lines: lines,
+            bits: bits,
+        },
+        hit: hit,
+    }
+}
+
 // "hands the new state back with hit or miss"
 impl SetState {
     pub fn lru(self, k: usize, block: Block) -> Stepped
@@ -159,13 +171,7 @@ impl SetState {
         let mut lines = self.lines;
         let bits = self.bits;
         let hit = lru_lines(&mut lines, k, block.0);
-        Stepped {
-            state: SetState {
-                lines: lines,
-                bits: bits,
-            },
-            hit: hit,
-        }
+        stepped(lines, bits, hit)
     }
 
     pub fn fifo(self, k: usize, block: Block) -> Stepped
@@ -175,13 +181,7 @@ impl SetState {
         let mut lines = self.lines;
         let bits = self.bits;
         let hit = fifo_lines(&mut lines, k, block.0);
-        Stepped {
-            state: SetState {
-                lines: lines,
-                bits: bits,
-            },
-            hit: hit,
-        }
+        stepped(lines, bits, hit)
     }
 
     pub fn nmru(self, k: usize, block: Block, next: &[u8; 2048]) -> Stepped
@@ -193,13 +193,6 @@ impl SetState {
         let mut lines = self.lines;
         let bits = self.bits;
         let t = nmru_lines(&mut lines, bits, k, block.0, next);
-        let new = t.bits;
-        Stepped {
-            state: SetState {
-                lines: lines,
-                bits: new,
-            },
-            hit: t.hit,
-        }
+        stepped(lines, t.bits, t.hit)
     }
 }
