@@ -2,16 +2,15 @@
 use Prim.Native.Nat.{ℕ, _+_, _*_, _%_, _≤_, _<_}
 use native.Mathlib.Omega.{arith}
 use mathlib.Core.Path.{_≡_, refl, _∙_, ap}
-use mathlib.Core.Bool.{Bool, cond}
+use mathlib.Core.Bool.{Bool, cond, not}
 use mathlib.Core.List.{List}
 use Rattle.paper.specs.declared.Trailer.{Trailer}
-use Rattle.paper.specs.Cases.{Case, scopeOf, size}
+use Rattle.paper.specs.Cases.{Case, scopeOf, size, fetches}
 use Rattle.paper.specs.Files.{rowAt, factAt, caseOf}
 use Rattle.paper.specs.Lists.{some}
-use Rattle.paper.specs.Facts.{badRow, badRowAt, badStepAt, badManyAt, evidenceRule}
+use Rattle.paper.specs.Facts.{unfetched, badRow, badRowAt, badStepAt, badManyAt, evidenceRule}
 use Rattle.fact.specs.declared.Head.{Head}
 use Rattle.fact.specs.Stands.{Stands, factOf, nodesOf}
-use Rattle.fact.specs.Sought.{sought}
 
 module _ (f : List ℕ) (t : Trailer) (h : Head) (s : Stands f t h) where
   pub scope-size : size (scopeOf (caseOf f t) (factOf f h)) ≡ nodesOf h
@@ -31,10 +30,14 @@ module _ (f : List ℕ) (t : Trailer) (h : Head) (s : Stands f t h) where
   pub limit-high : (n : ℕ) → n < h .limit → n < factOf f h .limit
   limit-high n l = omega (arith, s .limit)
 
+  pub unfetched-is : (n : ℕ) (b : Bool) → n ≡ nodesOf h → b ≡ some (fetches (caseOf f t) (factOf f h)) n → not b ≡ unfetched (caseOf f t) (factOf f h)
+  unfolding unfetched
+  unfetched-is n b e q = rw (scope-size, ← e, ← q) refl
+
   pub evidence-is :
       (a b c : Bool) → a ≡ some (badRowAt (caseOf f t) (factOf f h)) (nodesOf h) → b ≡ some (badStepAt (caseOf f t) (factOf f h)) (t .edges) →
-      c ≡ some (sought 18 (caseOf f t) (factOf f h)) (nodesOf h) → cond a 16 (cond b 17 (cond c 18 0)) ≡ evidenceRule (caseOf f t) (factOf f h)
-  unfolding evidenceRule badManyAt
+      c ≡ some (badManyAt (caseOf f t) (factOf f h)) (nodesOf h) → cond a 16 (cond b 17 (cond c 18 0)) ≡ evidenceRule (caseOf f t) (factOf f h)
+  unfolding evidenceRule
   evidence-is a b c x y z = cc (scope-size, edges-is)
 
 -- the row of the scope's node j, where it stands

@@ -1,4 +1,3 @@
 pub mod Stands
 pub mod Edges
 pub mod Rows
-pub mod Sought

@@ -1,7 +1,6 @@
 // One fact and its evidence: rules 14 and 16 to 18. Nodes, edges and rows are read straight from the file.
 ghost use mathlib.Core.Path.{_≡_};
 ghost use Prim.Native.Nat.{_<_, _≤_};
-ghost use mathlib.Core.Logic.{_≢_};
 ghost use Rattle.paper.specs.Lists.{some};
 ghost use Rattle.paper.specs.Files as Files;
 ghost use Rattle.paper.specs.Facts as Facts;
@@ -9,7 +8,6 @@ ghost use Rattle.paper.specs.Cases as Cases;
 ghost use Rattle.layout.specs.Laid.{Laid};
 ghost use Rattle.fact.specs.Stands.{factOf, nodesOf, Stands, Whole};
 ghost use Rattle.fact.specs.Edges.{Ordered};
-ghost use Rattle.fact.specs.Sought.{sought};
 use paper::Trailer;
 use rows::bad_rows;
 use rows::row_at;
@@ -46,48 +44,52 @@ fn fetches(file: &[u8], t: Trailer, h: Head, j: u16) -> bool
     layout::node_at(file, t, h.first + j) == h.block
 }
 
-// Node j of the scope is what the rule looks for: 14, one that fetches b; 18, "a node that fetches b has row 8".
-fn found_at(file: &[u8], t: Trailer, h: Head, rule: u8, j: u16) -> bool
-    requires { ⌜ Laid (now file) t ⌝ }
-    requires { ⌜ Stands (now file) t h ⌝ }
-    requires { ⌜ (rule ≢ 14 → Whole (now file) h) ⌝ }
-    requires { ⌜ j < nodesOf h ⌝ }
-    ensures { λ r. ⌜ r ≡ sought rule (Files.caseOf (now (file .entry)) t) (factOf (now (file .entry)) h) j ⌝ }
-{
-    if fetches(file, t, h, j) {
-        if rule == 14 {
-            return true;
-        }
-        return layout::u16_at(file, row_at(file, h, j)) == 8;
-    }
-    false
-}
-
-// Some node of the scope is what the rule looks for.
-fn found(file: &[u8], t: Trailer, h: Head, rule: u8) -> bool
-    requires { ⌜ Laid (now file) t ⌝ }
-    requires { ⌜ Stands (now file) t h ⌝ }
-    requires { ⌜ (rule ≢ 14 → Whole (now file) h) ⌝ }
-    ensures { λ r. ⌜ r ≡ some (sought rule (Files.caseOf (now (file .entry)) t) (factOf (now (file .entry)) h)) (nodesOf h) ⌝ }
-{
-    let n = nodes_of(h);
-    let mut j: u16 = 0;
-    while j < n {
-        if found_at(file, t, h, rule, j) {
-            return true;
-        }
-        j += 1;
-    }
-    false
-}
-
 // 14: "no node of the scope fetches b"
 pub fn unfetched(file: &[u8], t: Trailer, h: Head) -> bool
     requires { ⌜ Laid (now file) t ⌝ }
     requires { ⌜ Stands (now file) t h ⌝ }
     ensures { λ r. ⌜ r ≡ Facts.unfetched (Files.caseOf (now (file .entry)) t) (factOf (now (file .entry)) h) ⌝ }
 {
-    !found(file, t, h, 14)
+    let n = nodes_of(h);
+    let mut j: u16 = 0;
+    while j < n {
+        if fetches(file, t, h, j) {
+            return false;
+        }
+        j += 1;
+    }
+    true
+}
+
+fn bad_many(file: &[u8], t: Trailer, h: Head, j: u16) -> bool
+    requires { ⌜ Laid (now file) t ⌝ }
+    requires { ⌜ Stands (now file) t h ⌝ }
+    requires { ⌜ Whole (now file) h ⌝ }
+    requires { ⌜ j < nodesOf h ⌝ }
+    ensures { λ r. ⌜ r ≡ Facts.badManyAt (Files.caseOf (now (file .entry)) t) (factOf (now (file .entry)) h) j ⌝ }
+{
+    if fetches(file, t, h, j) {
+        return layout::u16_at(file, row_at(file, h, j)) == 8;
+    }
+    false
+}
+
+// 18: "a node that fetches b has row 8"
+fn bad_manys(file: &[u8], t: Trailer, h: Head) -> bool
+    requires { ⌜ Laid (now file) t ⌝ }
+    requires { ⌜ Stands (now file) t h ⌝ }
+    requires { ⌜ Whole (now file) h ⌝ }
+    ensures { λ r. ⌜ r ≡ some (Facts.badManyAt (Files.caseOf (now (file .entry)) t) (factOf (now (file .entry)) h)) (nodesOf h) ⌝ }
+{
+    let n = nodes_of(h);
+    let mut j: u16 = 0;
+    while j < n {
+        if bad_many(file, t, h, j) {
+            return true;
+        }
+        j += 1;
+    }
+    false
 }
 
 // The number of the first of the rules 16 to 18 that the fact's rows break; 0 where they break none.
@@ -104,7 +106,7 @@ pub fn evidence_rule(file: &[u8], t: Trailer, h: Head) -> u8
     if bad_steps(file, t, h) {
         return 17;
     }
-    if found(file, t, h, 18) {
+    if bad_manys(file, t, h) {
         return 18;
     }
     0

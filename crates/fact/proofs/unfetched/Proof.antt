@@ -1,14 +1,44 @@
-use mathlib.Core.Path.{refl, _∙_, ap}
-use mathlib.Core.Bool.{not, and-true}
-use Rattle.paper.specs.Facts.{unfetched}
-use Rattle.paper.proofs.Least.{some-same}
-use Rattle.fact.proofs.Scopes.{scope-size}
+use Prim.Native.Nat.{_-_}
+use borrow.Author.Needs.{needs}
+use Rattle.paper.specs.Cases.{fetches}
+use Rattle.paper.specs.Files.{caseOf}
+use Rattle.paper.proofs.Least.{Passed, passed-start, passed-more, some-found, some-end}
+use Rattle.fact.specs.Stands.{factOf}
+use Rattle.fact.proofs.Scopes.{unfetched-is}
 use Rattle.fact.proofs.unfetched.Statement.{statement}
 use Rattle.fact.proofs.unfetched.Tie as tie
 
-returns : tie.Need-returns
-unfolding unfetched
-returns c = rw (scope-size _ _ _ (c .before .before .pre .1)) (ap not (c .found .ensures ∙ some-same _ _ _ (λ k l. and-true _)))
+abbrev Inv-loop : tie.InvT-loop
+Inv-loop file t h n j₀ j = Passed (fetches (caseOf file t) (factOf file h)) n j
+
+abbrev μ-loop : tie.MeasureT-loop
+μ-loop file t h n j₀ j = n - j
+
+returns : tie.Need-returns Inv-loop μ-loop
+returns c =
+    unfetched-is _ _ _ (c .before .before .before .before .before .before .pre .1) _ _ (c .before .before .before .before .nodes-of .ensures .0)
+    (some-found _ _ _ (c .before .before .before .loop .inv) _ (c .before .before .loop-test .taken) (c .before .fetches .ensures) (c .if1 .taken))
+
+loop-again : tie.Need-loop-again Inv-loop μ-loop
+loop-again c =
+    passed-more _ _ _ _ (c .before .before .before .loop .inv) (c .before .before .loop-test .taken) (c .before .fetches .ensures) (c .if1 .left)
+
+returns-2 : tie.Need-returns-2 Inv-loop μ-loop
+returns-2 c =
+    unfetched-is _ _ _ (c .before .before .before .before .pre .1) _ _ (c .before .before .nodes-of .ensures .0)
+    (some-end _ _ _ (c .before .loop .inv) (c .loop-test .left))
 
 pub unfetched-spec : {M : Type 1} → statement M
-unfetched-spec = tie.close (tie.spec (λ c κs. let p = c .before .pre in (p .0, (p .1, λ z. absurd (z refl)))) returns)
+unfetched-spec =
+    tie.close
+    (tie.spec
+    Inv-loop
+    μ-loop
+    (λ c κs. search needs)
+    (λ c. passed-start _ _)
+    (λ c κs. search needs)
+    returns
+    (λ c. search needs)
+    (λ c. search needs)
+    loop-again
+    returns-2)

@@ -1,39 +1,39 @@
 use Prim.Native.Nat.{_-_}
 use borrow.Author.Needs.{needs}
 use Rattle.paper.specs.Files.{caseOf}
+use Rattle.paper.specs.Facts.{badManyAt}
 use Rattle.paper.proofs.Least.{Passed, passed-start, passed-more, some-found, some-end}
 use Rattle.fact.specs.Stands.{factOf}
-use Rattle.fact.specs.Sought.{sought}
-use Rattle.fact.proofs.found.Statement.{statement}
-use Rattle.fact.proofs.found.Tie as tie
+use Rattle.fact.proofs.bad_manys.Statement.{statement}
+use Rattle.fact.proofs.bad_manys.Tie as tie
 
 abbrev Inv-loop : tie.InvT-loop
-Inv-loop file t h rule n j₀ j = Passed (sought rule (caseOf file t) (factOf file h)) n j
+Inv-loop file t h n j₀ j = Passed (badManyAt (caseOf file t) (factOf file h)) n j
 
 abbrev μ-loop : tie.MeasureT-loop
-μ-loop file t h rule n j₀ j = n - j
+μ-loop file t h n j₀ j = n - j
 
 returns : tie.Need-returns Inv-loop μ-loop
 returns c =
     rw (← c .before .before .before .before .nodes-of .ensures .0)
-    (some-found _ _ _ (c .before .before .before .loop .inv) _ (c .before .before .loop-test .taken) (c .before .found-at .ensures) (c .if1 .taken))
+    (some-found _ _ _ (c .before .before .before .loop .inv) _ (c .before .before .loop-test .taken) (c .before .bad-many .ensures) (c .if1 .taken))
 
 loop-again : tie.Need-loop-again Inv-loop μ-loop
 loop-again c =
-    passed-more _ _ _ _ (c .before .before .before .loop .inv) (c .before .before .loop-test .taken) (c .before .found-at .ensures) (c .if1 .left)
+    passed-more _ _ _ _ (c .before .before .before .loop .inv) (c .before .before .loop-test .taken) (c .before .bad-many .ensures) (c .if1 .left)
 
 returns-2 : tie.Need-returns-2 Inv-loop μ-loop
 returns-2 c = rw (← c .before .before .nodes-of .ensures .0) (some-end _ _ _ (c .before .loop .inv) (c .loop-test .left))
 
-pub found-spec : {M : Type 1} → statement M
-found-spec =
+pub bad-manys-spec : {M : Type 1} → statement M
+bad-manys-spec =
     tie.close
     (tie.spec
     Inv-loop
     μ-loop
     (λ c κs. search needs)
     (λ c. passed-start _ _)
-    (λ c κs. let p = c .before .before .before .before .pre in (p .0, (p .1 .0, (p .1 .1, search needs))))
+    (λ c κs. search needs)
     returns
     (λ c. search needs)
     (λ c. search needs)
