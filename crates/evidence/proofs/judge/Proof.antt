@@ -1,4 +1,3 @@
-use mathlib.Core.Path.{refl}
 use native.Mathlib.Omega.{arith}
 use borrow.Author.Needs.{needs}
 use Rattle.evidence.proofs.Early.{broken, judges, rule-11, rule-12, named, stands, rule-13, rule-late}
