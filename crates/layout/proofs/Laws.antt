@@ -25,17 +25,21 @@ use Rattle.layout.specs.declared.Layout.the-variants.{Read, Refused}
 use Rattle.layout.specs.Laid.{Laid}
 use Rattle.layout.specs.Layouts.{unless, layoutOf}
 
--- `layoutOf` by the outcomes of its tests
-module _ (f : List ℕ) where
-  pub layout-short : length f < 32 → Refused (refuse 1 0) ≡ layoutOf f
-  unfolding layoutOf
-  layout-short l = rw (lt-ltb (length f) 32 l) refl
+-- a rule in the chain, by the outcome b of its test: where it is kept the answer is that of the rest, where it is broken the file is refused
+module _ (number : ℕ) (bad : Bool) (rest : Layout) (b : Bool) (e : b ≡ bad) where
+  pub passes : (l : Layout) → b ≡ false → l ≡ rest → l ≡ unless number bad rest
+  passes l h s = rw (← e, h) s
 
-  pub layout-is :
-      32 ≤ length f → (a b c d : Bool) → a ≡ badLetters f → b ≡ badCache (trailerOf f) → c ≡ badNumbers (trailerOf f) → d ≡ badOffsets f (trailerOf f) →
-      unless 2 a (unless 3 b (unless 4 c (unless 5 d (Read (trailerOf f))))) ≡ layoutOf f
-  unfolding layoutOf
-  layout-is l a b c d w x y z = rw (le-ltb (length f) 32 l, ← w, ← x, ← y, ← z) refl
+  pub stops : (r : Refusal) → b ≡ true → r ≡ refuse number 0 → Refused r ≡ unless number bad rest
+  stops r h s = rw (← e, h) (ap Refused s)
+
+-- rule 1, on the length itself
+module _ (f : List ℕ) (rest : Layout) where
+  pub long : (l : Layout) → 32 ≤ length f → l ≡ rest → l ≡ unless 1 (ltb (length f) 32) rest
+  long l h s = rw (le-ltb (length f) 32 h) s
+
+  pub short : (r : Refusal) → length f < 32 → r ≡ refuse 1 0 → Refused r ≡ unless 1 (ltb (length f) 32) rest
+  short r h s = rw (lt-ltb (length f) 32 h) (ap Refused s)
 
 -- The verdict where the trailer is handed on.
 abbrev pub onward : (Trailer → Verdict) → Layout → Verdict
