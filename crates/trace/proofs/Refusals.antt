@@ -1,15 +1,18 @@
 -- "Trace run: 3, 20, 21." The four answers, and what a run that is not refused may rely on. Assumes nothing.
 use Prim.Native.Nat.{ℕ, _<_, _≤_}
 use native.Mathlib.Omega.{arith}
-use mathlib.Core.Path.{_≡_}
+use mathlib.Core.Path.{_≡_, sym, ap}
 use mathlib.Core.Bool.{true, false}
 use mathlib.Core.List.{List}
 use lib.ListN.{length}
 use borrow.Author.Tests.{lt-ltb, le-ltb}
-use Rattle.paper.specs.declared.TraceAnswer.the-variants.{Misses}
+use Rattle.paper.specs.declared.TraceAnswer.{TraceAnswer}
+use Rattle.paper.specs.declared.TraceAnswer.the-variants.{Misses, Refused}
+use Rattle.paper.specs.declared.Refusal.{Refusal}
+use Rattle.paper.specs.Answers.{refuse}
 use Rattle.paper.specs.Lists.{least, some}
 use Rattle.paper.specs.Machines.{emptySet, offered, setCount, inRange}
-use Rattle.paper.specs.Traces.{refusedRun, badAccess, traceRun}
+use Rattle.paper.specs.Traces.{Run, refusedRun, badAccess, traceRun}
 use Rattle.paper.proofs.Least.{none-some}
 use Rattle.paper.proofs.Says.{says-true, both}
 use Rattle.paper.proofs.States.{says-sets}
@@ -17,6 +20,15 @@ use Rattle.trace.specs.Runs.{made, Runs, Ran}
 use Rattle.trace.proofs.Going.{length-marks}
 
 module _ (p w s : ℕ) (bs ms : List ℕ) where
+  -- a run whose whole outcome is known, in the two parts of the contract
+  pub outcome : (a : TraceAnswer) (out : List ℕ) → traceRun p w s bs ms ≡ (record { answer = a; marks = out }) → (a ≡ traceRun p w s bs ms .answer) × (out ≡ traceRun p w s bs ms .marks)
+  outcome a out e = (ap (λ (r : Run). r .answer) (sym e), ap (λ (r : Run). r .marks) (sym e))
+
+  pub refused :
+      (number place : ℕ) (r : Refusal) → r ≡ refuse number place → traceRun p w s bs ms ≡ refusedRun number place ms
+      → (Refused r ≡ traceRun p w s bs ms .answer) × (ms ≡ traceRun p w s bs ms .marks)
+  refused number place r f e = rw f (outcome _ _ e)
+
   pub run-3 : inRange p w s ≡ false → traceRun p w s bs ms ≡ refusedRun 3 0 ms
   unfolding traceRun
   run-3 e = rw e

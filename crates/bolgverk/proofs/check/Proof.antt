@@ -10,15 +10,22 @@ returns c = too-short _ _ _ (c .before .if1 .taken) (c .refuse .ensures)
 
 judge-requires : tie.Need-judge-requires
 judge-requires c κs =
-    let e = sym (c .before .before .before .before .layout-of .ensures) ∙ c .before .before .read .given .1 in
-    record { 0 = read-laid _ _ e; 1 = record { 0 = read-cache _ _ e; 1 = c .before .before .before .before .before .if1 .left } }
+    let m = c .before .before in
+    let l = m .before .before in
+    let e = sym (l .layout-of .ensures) ∙ m .read .given .1 in
+    (read-laid _ _ e, (read-cache _ _ e, l .before .if1 .left))
 
 returns-2 : tie.Need-returns-2
 returns-2 c =
-    judged-check _ _ (c .before .before .before .before .before .before .before .before .if1 .left) _ (c .before .before .before .before .before .before .before .layout-of .ensures) _ (c .before .before .before .before .before .read .given .1) _ _ (c .before .before .judge .ensures)
+    let j = c .before .before in
+    let m = j .before .before .before in
+    let l = m .before .before in
+    judged-check _ _ (l .before .if1 .left) _ (l .layout-of .ensures) _ (m .read .given .1) _ _ (j .judge .ensures)
 
 returns-3 : tie.Need-returns-3
-returns-3 c = layout-refused _ _ (c .before .before .before .before .if1 .left) _ (c .before .before .before .layout-of .ensures) _ (c .before .read2 .given .1)
+returns-3 c =
+    let l = c .before .before .before in
+    layout-refused _ _ (l .before .if1 .left) _ (l .layout-of .ensures) _ (c .before .read2 .given .1)
 
 pub check-spec : {M : Type 1} → statement M
 check-spec =

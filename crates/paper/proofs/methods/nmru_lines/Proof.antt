@@ -6,13 +6,16 @@ use Rattle.paper.proofs.methods.nmru_lines.Tie as tie
 
 returns : tie.Need-returns
 returns c =
-    let a = c .before .before .before .before .args in
-    nmru-hit (a .k) (a .lines .now) (a .bits) (a .b) _ (c .before .before .before .before .pre .0) (c .before .before .before .before .pre .1 .0) (c .before .before .line-of .ensures) _ (c .before .if1 .taken) (c .mark .ensures)
+    let l = c .before .before in
+    let s = l .before .before in
+    nmru-hit _ _ _ _ _ (s .pre .0) (s .pre .1 .0) (l .line-of .ensures) _ (c .before .if1 .taken) (c .mark .ensures)
 
 returns-2 : tie.Need-returns-2
 returns-2 c =
-    let a = c .before .before .before .before .before .args in
-    nmru-miss (a .k) (a .lines .now) (a .bits) (a .b) _ (c .before .before .before .before .before .pre .0) (c .before .before .before .before .before .pre .1 .0) (c .before .before .before .line-of .ensures) _ _ (c .before .before .if1 .left) (c .before .lowest-clear .ensures .0) (c .mark2 .ensures)
+    let v = c .before in
+    let l = v .before .before in
+    let s = l .before .before in
+    nmru-miss _ _ _ _ _ (s .pre .0) (s .pre .1 .0) (l .line-of .ensures) _ _ (v .before .if1 .left) (v .lowest-clear .ensures .0) (c .mark2 .ensures)
 
 pub nmru-lines-spec : {M : Type 1} → statement M
 nmru-lines-spec =
