@@ -2,6 +2,7 @@
 use Prim.Native.Nat.{ℕ, zero, suc, _+_, _*_, _≤_, _<_}
 use native.Mathlib.Omega.{arith}
 use native.Mathlib.Nat.{mul-zero, zero-mul, le-mul-of-pos-right}
+use native.Mathlib.Numerals.{add-one}
 use native.Mathlib.Decide.{decLe}
 use mathlib.Core.Path.{_≡_, refl, sym, _∙_, ap}
 use mathlib.Core.List.{List}
@@ -11,7 +12,6 @@ use lib.ListN.{length, getD, take}
 use lib.Seq.{getD-take, length-take-le}
 use Rattle.paper.specs.declared.Loop.{Loop}
 use Rattle.paper.specs.Lists.{productTo}
-use Rattle.paper.proofs.Products.{product-more}
 use Rattle.loops.specs.Counts.{noLoop, factor, countIn, shown}
 
 pub shown-small : (p : ℕ) → p ≤ 4294967295 → shown p ≡ p
@@ -35,6 +35,10 @@ shown-times p b =
       | yes h ↦ rw (shown-small p h) refl
       | no h ↦ rw (shown-large p (omega arith), zero-mul) (shown-small 0 (lit≤ tt) ∙ sym (times-large p b (omega arith)))
     ]
+
+product-more : (g : ℕ → ℕ) (n : ℕ) → productTo g (n + 1) ≡ productTo g n * g n
+unfolding productTo
+product-more g n = rw add-one refl
 
 pub product-agree : (g h : ℕ → ℕ) (n : ℕ) → ((j : ℕ) → j < n → g j ≡ h j) → productTo g n ≡ productTo h n
 unfolding productTo

@@ -1,6 +1,7 @@
 // The public single step, and the conversions of addresses, blocks and sets.
 ghost use mathlib.Core.Path.{_≡_};
 ghost use mathlib.Core.Bool.{true};
+ghost use mathlib.Core.Logic.{_≢_};
 ghost use Rattle.paper.specs.Machines as Machines;
 ghost use Rattle.paper.specs.Operations as Operations;
 
@@ -23,6 +24,7 @@ use paper::Stepped;
 fn take_step(policy: u8, k: usize, state: SetState, block: Block) -> Stepped
     requires { ⌜ Machines.offered policy k ≡ true ⌝ }
     requires { ⌜ Machines.legal policy k state ≡ true ⌝ }
+    requires { ⌜ block .0 ≢ Machines.none ⌝ }
     ensures { λ r. ⌜ r ≡ Machines.step policy k state (block .0) ⌝ }
 {
     if policy == 0 {

@@ -4,8 +4,11 @@ use native.Mathlib.Nat.{not-suc-le-zero, le-of-suc-le-suc}
 use native.Mathlib.Omega.{arith}
 use native.Mathlib.Numerals.{add-one}
 use mathlib.Core.Path.{_≡_, refl, sym, ap, _∙_}
+use mathlib.Core.Bool.{true, false}
 use mathlib.Core.List.{List, [], _∷_, _++_}
+use lib.Dec.{ltb}
 use lib.ListN.{length, getD, take, drop, set, length-set}
+use borrow.Author.Tests.{lt-ltb, le-ltb}
 use Rattle.paper.specs.Machines.{lineOf, pushed}
 use Rattle.paper.proofs.Lines.{line-here, line-on, line-end}
 
@@ -60,12 +63,14 @@ module _ (l : List ℕ) (b : ℕ) (m : List ℕ) (c i : ℕ) (w : Carried l b m 
           line = omega (arith, w .line, line-on l i b low (λ e. n (here ∙ e)));
         })
 
-    pub carry-found : getD m i 0 ≡ b → i < 8 → (i ≡ lineOf l b) × (set m i c ≡ pushed (min i 7) l b)
+    pub carry-found : getD m i 0 ≡ b → i < 8 → (true ≡ ltb (lineOf l b) 8) × (set m i c ≡ pushed (min (lineOf l b) 7) l b)
     carry-found e h =
-        let z : i ≡ min i 7 = omega arith in
-        (omega (arith, w .line, line-here l i b low (sym here ∙ e)), moved ∙ shift-pushed i l b ∙ ap (λ (j : ℕ). pushed j l b) z)
+        let p : lineOf l b ≡ i = omega (arith, w .line, line-here l i b low (sym here ∙ e)) in
+        let z : i ≡ min (lineOf l b) 7 = omega arith in
+        (sym (lt-ltb (lineOf l b) 8 (omega arith)), moved ∙ shift-pushed i l b ∙ ap (λ (j : ℕ). pushed j l b) z)
 
-  pub carry-end : length l ≡ 8 → 8 ≤ i → (i ≡ lineOf l b) × (m ≡ pushed (min i 7) l b)
+  pub carry-end : length l ≡ 8 → 8 ≤ i → (false ≡ ltb (lineOf l b) 8) × (m ≡ pushed (min (lineOf l b) 7) l b)
   carry-end e h =
-      let z : i ≡ suc (min i 7) = omega (arith, w .within) in
-      (omega (arith, w .line, line-end l i b (omega arith)), w .lines ∙ ap (λ (j : ℕ). shifted j l b) z ∙ shift-pushed (min i 7) l b)
+      let p : lineOf l b ≡ i = omega (arith, w .line, line-end l i b (omega arith)) in
+      let z : i ≡ suc (min (lineOf l b) 7) = omega (arith, w .within) in
+      (sym (le-ltb (lineOf l b) 8 (omega arith)), w .lines ∙ ap (λ (j : ℕ). shifted j l b) z ∙ shift-pushed _ l b)

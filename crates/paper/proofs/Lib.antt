@@ -1,7 +1,6 @@
 pub mod Least
 pub mod Says
 pub mod Sums
-pub mod Products
 pub mod Tables
 pub mod Bits
 pub mod States

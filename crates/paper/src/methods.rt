@@ -1,6 +1,8 @@
 // One step of each machine: on a set's eight lines where they lie, and by value on the set state.
 ghost use mathlib.Core.Path.{_≡_};
+ghost use mathlib.Core.Logic.{_≢_};
 ghost use Prim.Native.Nat.{ℕ, _+_, _-_, _^_, _<_, _≤_, min};
+ghost use lib.Dec.{ltb};
 ghost use lib.ListN.{length, set};
 ghost use Rattle.paper.specs.Machines.{none, lineOf, pushed, victim, marked, lruStep, fifoStep, nmruStep};
 ghost use Rattle.paper.specs.NextBits.{nextBits};
@@ -38,11 +40,11 @@ fn push(lines: &mut [u16; 8], b: u16)
     lines[0] = b;
 }
 
-// b comes to line 0 and each line one down, up to the one that b stood in: the search and the shift in one go.
-fn carry(lines: &mut [u16; 8], b: u16) -> usize
+// b comes to line 0 and each line one down, up to the one that b stood in: the search and the shift in one go. It answers whether b stood in one.
+fn carry(lines: &mut [u16; 8], b: u16) -> bool
     requires { ⌜ length (now lines) ≡ 8 ⌝ }
-    ensures { λ r. ⌜ r ≡ lineOf (now (lines .entry)) b ⌝ }
-    ensures { λ r. ⌜ now (lines .exit) ≡ pushed (min r 7) (now (lines .entry)) b ⌝ }
+    ensures { λ r. ⌜ r ≡ ltb (lineOf (now (lines .entry)) b) 8 ⌝ }
+    ensures { λ r. ⌜ now (lines .exit) ≡ pushed (min (lineOf (now (lines .entry)) b) 7) (now (lines .entry)) b ⌝ }
 {
     let mut carried = b;
     let mut i: usize = 0;
@@ -50,12 +52,12 @@ fn carry(lines: &mut [u16; 8], b: u16) -> usize
         let here = lines[i];
         lines[i] = carried;
         if here == b {
-            return i;
+            return true;
         }
         carried = here;
         i += 1;
     }
-    i
+    false
 }
 
 // The lines from k on are empty. Where more than k lines were moved, line k is emptied again: "the last is lost."
@@ -68,14 +70,14 @@ fn empty_line(lines: &mut [u16; 8], k: usize)
     }
 }
 
-// LRU on the lines where they lie, whatever the bits n beside them.
+// LRU on the lines where they lie, whatever the bits n beside them. The lines from k on are empty, so a block that stands in a line stands in one of the k.
 pub fn lru_lines(lines: &mut [u16; 8], k: usize, b: u16) -> bool
     requires { ⌜ Ready k (now lines) ⌝ }
+    requires { ⌜ b ≢ none ⌝ }
     requires { ⌜ length (now lines) ≡ 8 ⌝ }
     ensures { λ r. ⌜ ((n : ℕ) → steppedOf (now (lines .exit)) n r ≡ lruStep k (stateOf (now (lines .entry)) n) b) ⌝ }
 {
-    let j = carry(lines, b);
-    if j < k {
+    if carry(lines, b) {
         return true;
     }
     empty_line(lines, k);
@@ -166,6 +168,7 @@ fn stepped(lines: [u16; 8], bits: u8, hit: bool) -> Stepped
 impl SetState {
     pub fn lru(self, k: usize, block: Block) -> Stepped
         requires { ⌜ Ready k (self .lines) ⌝ }
+        requires { ⌜ block .0 ≢ none ⌝ }
         ensures { λ r. ⌜ r ≡ lruStep k self (block .0) ⌝ }
     {
         let mut lines = self.lines;

@@ -6,6 +6,7 @@ use native.Mathlib.Decide.{ℕ-discrete}
 use native.Mathlib.Omega.{arith}
 use mathlib.Core.Path.{_≡_, refl, ap, ap₂, sym, _∙_, subst}
 use mathlib.Core.Bool.{Bool, not}
+use mathlib.Core.Logic.{_≢_}
 use mathlib.Core.List.{List, [], _∷_, _++_, append-assoc}
 use lib.ListN.{length, getD, take, drop, set, replicate, length-set}
 use lib.Seq.{drop-cons, take-suc, set-at, length-take-le, getD-drop, drop-drop, take-all, getD-set-same, getD-set-other}
@@ -159,6 +160,10 @@ module _ (p k sets : ℕ) (blocks lent : List ℕ) (ok : Runs p k sets blocks le
         }
 
   -- what a step on the set's lines asks for
+  pub no-none : (i : ℕ) → i < length blocks → getD blocks i 0 ≢ none
+  unfolding badAccess
+  no-none i h = eqb-false (getD blocks i 0) none (ok .good i h)
+
   module _ (out : List ℕ) (lines : List (List ℕ)) (bits : List ℕ) (misses i : ℕ) (g : Going p k sets blocks lent out lines bits misses i) (at : ℕ) (lo : at < 64) where
     row-is : getD lines at [] ≡ getD lines at (replicate 8 none)
     row-is = getD-within lines at [] (replicate 8 none) (omega (arith, g .rows))

@@ -1,6 +1,7 @@
 // The trace run: every access steps the machine of its set.
 ghost use mathlib.Core.Path.{_≡_};
 ghost use mathlib.Core.Bool.{not};
+ghost use mathlib.Core.Logic.{_≢_};
 ghost use Prim.Native.Nat.{ℕ, _<_, _≤_};
 ghost use lib.ListN.{length};
 ghost use Rattle.paper.specs.Lists as Lists;
@@ -35,6 +36,7 @@ fn mark_of(hit: bool) -> u8
 // One step of LRU or FIFO, whatever the bits n beside the lines.
 fn step_lines(policy: u8, lines: &mut [u16; 8], k: usize, b: u16) -> bool
     requires { ⌜ policy < 2 ⌝ }
+    requires { ⌜ b ≢ Machines.none ⌝ }
     requires { ⌜ Ready k (now lines) ⌝ }
     requires { ⌜ length (now lines) ≡ 8 ⌝ }
     ensures { λ r. ⌜ ((n : ℕ) → steppedOf (now (lines .exit)) n r ≡ Machines.step policy k (stateOf (now (lines .entry)) n) b) ⌝ }

@@ -31,7 +31,8 @@ returns-3 c =
 take-step-requires : tie.Need-take-step-requires
 take-step-requires c κs =
     let l = c .before .before in
-    (sym (l .before .before .is-offered .ensures) ∙ not-false _ (l .before .if1 .left), sym (l .is-legal .ensures) ∙ not-false _ (c .before .if2 .left))
+    let o = sym (l .before .before .is-offered .ensures) ∙ not-false _ (l .before .if1 .left) in
+    (o, (sym (l .is-legal .ensures) ∙ not-false _ (c .before .if2 .left), c .if3 .left))
 
 returns-4 : tie.Need-returns-4
 returns-4 c =

@@ -11,14 +11,14 @@ use Rattle.machine.proofs.take_step.Statement.{statement}
 use Rattle.machine.proofs.take_step.Tie as tie
 
 lru-requires : tie.Need-lru-requires
-lru-requires c κs = legal-ready _ _ _ (c .before .pre .1) (says-true (says-offered _ _) (c .before .pre .0))
+lru-requires c κs = (legal-ready _ _ _ (c .before .pre .1 .0) (says-true (says-offered _ _) (c .before .pre .0)), c .before .pre .1 .1)
 
 returns : tie.Need-returns
 unfolding step
 returns c = c .lru .ensures ∙ sym (rw (eq-eqb _ _ (c .before .if1 .taken)))
 
 fifo-requires : tie.Need-fifo-requires
-fifo-requires c κs = legal-ready _ _ _ (c .before .before .pre .1) (says-true (says-offered _ _) (c .before .before .pre .0))
+fifo-requires c κs = legal-ready _ _ _ (c .before .before .pre .1 .0) (says-true (says-offered _ _) (c .before .before .pre .0))
 
 returns-2 : tie.Need-returns-2
 unfolding step
@@ -28,7 +28,7 @@ nmru-requires : tie.Need-nmru-requires
 nmru-requires c κs =
     let s = c .before .before .before .before in
     let o = says-true (says-offered _ _) (s .pre .0) in
-    (legal-ready _ _ _ (s .pre .1) o, (nmru-bits _ _ _ (s .pre .1) (omega (arith, o .known)), c .before .next-bits .ensures))
+    (legal-ready _ _ _ (s .pre .1 .0) o, (nmru-bits _ _ _ (s .pre .1 .0) (omega (arith, o .known)), c .before .next-bits .ensures))
 
 returns-3 : tie.Need-returns-3
 unfolding step

@@ -5,7 +5,7 @@ use mathlib.Core.Path.{refl}
 use mathlib.Core.List.{[]}
 use lib.ListN.{length}
 use borrow.Author.Needs.{needs}
-use Rattle.trace.proofs.Going.{Going, going-start, going-more, going-end, row-ready}
+use Rattle.trace.proofs.Going.{Going, going-start, going-more, going-end, no-none, row-ready}
 use Rattle.trace.proofs.lines_run.Statement.{statement}
 use Rattle.trace.proofs.lines_run.Tie as tie
 
@@ -20,9 +20,10 @@ loop-holds c = going-start _ _ _ _ _ (c .before .before .pre .1) [] (λ q. refl)
 
 step-lines-requires : tie.Need-step-lines-requires Inv-loop μ-loop
 step-lines-requires c κs =
-    let s = c .before .before .before .before .before .before .before in
     let v = c .before .before .before .before .loop in
-    (s .pre .0, row-ready _ _ _ _ _ (s .pre .1) _ (v .lines) [] _ _ (v .inv) (c .before .home .result) (c .before .home .ensures .1))
+    let p = c .before .before .before .before .before .before .before .pre in
+    let r = row-ready _ _ _ _ _ (p .1) _ (v .lines) [] _ _ (v .inv) (c .before .home .result) (c .before .home .ensures .1) in
+    (p .0, (no-none _ _ _ _ _ (p .1) (v .i) (omega arith), r))
 
 loop-again : tie.Need-loop-again Inv-loop μ-loop
 loop-again c =
