@@ -14,7 +14,9 @@ ready : (c : tie.Start) → Ready (c .args .file .now) (c .args .t) (c .args .co
 ready c = let p = c .pre in record { laid = p .0; sound = p .1 .0; placed = p .1 .1 .0; counted = p .1 .1 .1 .0 }
 
 -- the numbers are 0
-cleared : (c : tie.After-clear) → Part (caseOf (c .before .before .before .before .before .args .file .now) (c .before .before .before .before .before .args .t)) 0 0 0 (c .before .before .before .before .before .args .bounds .now) (c .clear .last .0)
+cleared : (c : tie.After-clear) →
+    let a = c .before .before .before .before .before .args in
+    Part (caseOf (a .file .now) (a .t)) 0 0 0 (a .bounds .now) (c .clear .last .0)
 cleared c = part-start _ _ _ (c .before .before .before .before .before .pre .1 .1 .1 .1) (c .clear .ensures)
 
 charge-facts-requires : tie.Need-charge-facts-requires
@@ -30,13 +32,18 @@ charge-sets-requires c κs =
     (record { laid = s .0; sound = s .1 .0; facts = w .0; nodes = c .before .before .before .before .before .charge-nodes .ensures }, part-self _ _ _ _ _ _ (w .1))
 
 same-length : tie.Need-same-length
-same-length c = c .before .before .charge-sets .ensures .room ∙ (c .before .before .before .before .before .before .before .before .before .before .before .before .before .before .charge-facts .ensures .1 .1 .room ∙ cleared (c .before .before .before .before .before .before .before .before .before .before .before .before .before .before .before .before .before .before .before .before .before .before .before .before) .room)
+same-length c =
+    let s = c .before .before in
+    let f = s .before .before .before .before .before .before .before .before .before .before .before .before in
+    s .charge-sets .ensures .room ∙ (f .charge-facts .ensures .1 .1 .room ∙ cleared (f .before .before .before .before .before .before .before .before .before .before) .room)
 
 returns : tie.Need-returns
 unfolding caseOf
 returns c =
-    part-end _ (c .before .before .before .before .before .before .before .before .before .before .before .before .before .before .before .before .before .before .before .before .before .before .before .before .before .before .before .before .before .args .bounds .now) _ _ (c .before .before .before .before .before .before .before .before .before .before .before .before .before .before .charge-facts .ensures .1 .1 .later ∙ cleared (c .before .before .before .before .before .before .before .before .before .before .before .before .before .before .before .before .before .before .before .before .before .before .before .before) .later)
-    (c .before .before .charge-sets .ensures)
+    let s = c .before .before in
+    let f = s .before .before .before .before .before .before .before .before .before .before .before .before in
+    let k = f .before .before .before .before .before .before .before .before .before .before in
+    part-end _ (k .before .before .before .before .before .args .bounds .now) _ _ (f .charge-facts .ensures .1 .1 .later ∙ cleared k .later) (s .charge-sets .ensures)
 
 pub charge-spec : {M : Type 1} → statement M
 charge-spec =

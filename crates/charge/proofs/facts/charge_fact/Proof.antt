@@ -27,11 +27,13 @@ bound-of-requires c κs =
     let p = c .before .before .before .before .before .before .before .before .before .before .pre in
     (omega (arith, c .before .before .before .before .before .u16-at3 .ensures, p .1 .1 .0 .high), (p .0 .laid .ways-high, (c .before .before .before .entries-of .ensures .1, c .before .cover-nodes .ensures .1 .0)))
 
-next :
-    (c : tie.After-struct-known2)
-    → c .before .before .before .before .before .before .before .before .before .before .before .before .args .p + 6 + 16 * (c .before .before .before .before .before .before .range-at .result .last - c .before .before .before .before .before .before .range-at .result .first + 1)
-    ≡ factEnd (c .before .before .before .before .before .before .before .before .before .before .before .before .args .file .now) (c .before .before .before .before .before .before .before .before .before .before .before .before .args .t) (c .before .before .before .before .before .before .before .before .before .before .before .before .args .p)
-next c = end-is _ _ _ _ _ _ (c .before .before .before .before .before .before .before .before .before .u16-at .ensures) (c .before .before .before .before .before .before .before .before .u16-at2 .ensures) (c .before .before .before .before .before .before .range-at .ensures) _ (fits (c .before .before .before .before .before .before) .0) refl
+next : (c : tie.After-struct-known2) →
+    let r = c .before .before .before .before .before .before in
+    let a = r .before .before .before .before .before .before .args in
+    a .p + 6 + 16 * (r .range-at .result .last - r .range-at .result .first + 1) ≡ factEnd (a .file .now) (a .t) (a .p)
+next c =
+    let r = c .before .before .before .before .before .before in
+    end-is _ _ _ _ _ _ (r .before .before .before .u16-at .ensures) (r .before .before .u16-at2 .ensures) (r .range-at .ensures) _ (fits r .0) refl
 
 returns : tie.Need-returns
 returns c =

@@ -17,7 +17,9 @@ returns c = (rw (eq-eqb _ _ (c .if1 .taken)) refl, omega arith)
 loop-at-requires : tie.Need-loop-at-requires
 loop-at-requires c κs = (c .before .before .before .pre .0 .laid, c .before .before .before .pre .1 (c .if1 .left))
 
-header : (c : tie.After-loop-at) → Header (c .before .before .before .before .args .file .now) (c .before .before .before .before .args .t) (c .before .before .before .before .args .counts .now) (c .before .before .before .before .args .w) (c .loop-at .result)
+header : (c : tie.After-loop-at) →
+    let a = c .before .before .before .before .args in
+    Header (a .file .now) (a .t) (a .counts .now) (a .w) (c .loop-at .result)
 header c =
     let a = c .before .before .before .before in
     header-is _ _ _ (a .pre .0) _ _ (c .before .if1 .left) (a .pre .1 (c .before .if1 .left)) (c .loop-at .ensures)

@@ -25,7 +25,8 @@ shared-slice-read-breaks c =
 
 -- what the test says of the edge
 test : (c : tie.After-breaks Inv-loop μ-loop) →
-    c .breaks .result ≡ edgeRule (caseOf (c .before .before .before .before .before .before .before .before .before .args .file .now) (c .before .before .before .before .before .before .before .before .before .args .t)) (c .before .before .before .before .before .before .before .before .before .args .rule) (c .before .before .before .before .before .before .loop .i)
+    let a = c .before .before .before .before .before .before .before .before .before .args in
+    c .breaks .result ≡ edgeRule (caseOf (a .file .now) (a .t)) (a .rule) (c .before .before .before .before .before .before .loop .i)
 unfolding caseOf
 test c =
     let d = c .before .before in

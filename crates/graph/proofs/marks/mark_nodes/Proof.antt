@@ -25,7 +25,9 @@ loop-holds c =
     (omega arith, refl, holds-start f _ _ refl (omega arith) (omega (arith, c .before .before .before .before .before .before .before .before .pre)) (marked-start _ _))
 
 -- the mark is that of loop j
-is-mark : (c : tie.After-loop-mark Inv-loop μ-loop) → c .loop-mark .result ≡ marks (caseOf (c .before .before .before .before .before .before .before .before .before .before .before .before .before .before .args .file .now) (c .before .before .before .before .before .before .before .before .before .before .before .before .before .before .args .t)) (c .before .before .before .before .before .before .before .before .before .before .before .before .before .before .args .rule) (c .before .before .before .before .before .loop .j)
+is-mark : (c : tie.After-loop-mark Inv-loop μ-loop) →
+    let a = c .before .before .before .before .before .before .before .before .before .before .before .before .before .before .args in
+    c .loop-mark .result ≡ marks (caseOf (a .file .now) (a .t)) (a .rule) (c .before .before .before .before .before .loop .j)
 is-mark c =
     let i = c .before .before .before .before .before in
     handed-mark _ _ _ _ _ _ _ (i .before .loops-of .ensures) (c .before .before .before .if1 .taken)

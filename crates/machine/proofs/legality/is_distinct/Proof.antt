@@ -18,7 +18,9 @@ abbrev μ-loop : tie.MeasureT-loop
 μ-loop lines i₀ i = 8 - i
 
 returns : tie.Need-returns Inv-loop μ-loop
-returns c = sym (c .before .before .before .before .loop .inv .1 ∙ distinct-not (c .before .before .before .before .before .args .t1) (c .before .before .before .before .loop .i) (omega arith) (c .before .before .if1 .taken) (rw add-one at (sym (c .before .stands-from .ensures) ∙ c .if2 .taken)))
+returns c =
+    let v = c .before .before .before .before in
+    sym (v .loop .inv .1 ∙ distinct-not (v .before .args .t1) (v .loop .i) (omega arith) (c .before .before .if1 .taken) (rw add-one at (sym (c .before .stands-from .ensures) ∙ c .if2 .taken)))
 
 loop-again : tie.Need-loop-again Inv-loop μ-loop
 loop-again c =

@@ -1,7 +1,7 @@
 use borrow.Author.Needs.{needs}
 use Rattle.paper.specs.Files.{toAt}
-use Rattle.layout.proofs.to_at.Statement.{statement}
-use Rattle.layout.proofs.to_at.Tie as tie
+use Rattle.layout.proofs.sections.to_at.Statement.{statement}
+use Rattle.layout.proofs.sections.to_at.Tie as tie
 
 returns : tie.Need-returns
 unfolding toAt

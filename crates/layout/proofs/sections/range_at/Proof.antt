@@ -2,8 +2,8 @@ use borrow.Author.Needs.{needs}
 use mathlib.Core.Path.{refl}
 use borrow.Author.Tests.{eq-eqb, ne-eqb}
 use Rattle.paper.specs.Cases.{rangeOf}
-use Rattle.layout.proofs.range_at.Statement.{statement}
-use Rattle.layout.proofs.range_at.Tie as tie
+use Rattle.layout.proofs.sections.range_at.Statement.{statement}
+use Rattle.layout.proofs.sections.range_at.Tie as tie
 
 returns : tie.Need-returns
 unfolding rangeOf

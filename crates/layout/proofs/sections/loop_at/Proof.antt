@@ -1,7 +1,7 @@
 use borrow.Author.Needs.{needs}
 use Rattle.paper.specs.Files.{loopAt}
-use Rattle.layout.proofs.loop_at.Statement.{statement}
-use Rattle.layout.proofs.loop_at.Tie as tie
+use Rattle.layout.proofs.sections.loop_at.Statement.{statement}
+use Rattle.layout.proofs.sections.loop_at.Tie as tie
 
 returns : tie.Need-returns
 unfolding loopAt

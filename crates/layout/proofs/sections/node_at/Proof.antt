@@ -1,7 +1,7 @@
 use borrow.Author.Needs.{needs}
 use Rattle.paper.specs.Files.{nodeAt}
-use Rattle.layout.proofs.node_at.Statement.{statement}
-use Rattle.layout.proofs.node_at.Tie as tie
+use Rattle.layout.proofs.sections.node_at.Statement.{statement}
+use Rattle.layout.proofs.sections.node_at.Tie as tie
 
 returns : tie.Need-returns
 unfolding nodeAt

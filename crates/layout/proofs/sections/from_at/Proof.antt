@@ -1,7 +1,7 @@
 use borrow.Author.Needs.{needs}
 use Rattle.paper.specs.Files.{fromAt}
-use Rattle.layout.proofs.from_at.Statement.{statement}
-use Rattle.layout.proofs.from_at.Tie as tie
+use Rattle.layout.proofs.sections.from_at.Statement.{statement}
+use Rattle.layout.proofs.sections.from_at.Tie as tie
 
 returns : tie.Need-returns
 unfolding fromAt
