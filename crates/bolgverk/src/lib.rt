@@ -1,4 +1,4 @@
-// The public face of Bolgverk: every public operation, each thin, with its whole promise. None has a `requires`.
+// The public face of Bolgverk: every public operation, each thin, with its whole promise. Each takes every input.
 ghost use Rattle.bolgverk.specs.Promises.{StepPromise, BlockPromise, SetPromise, TracePromise, CheckPromise};
 use layout::Layout;
 use paper::Address;
