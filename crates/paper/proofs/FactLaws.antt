@@ -16,6 +16,11 @@ use Rattle.paper.proofs.Meaning.{In, SoundRow, EdgeRule, SoundEvidence,
 use Rattle.paper.proofs.GraphLaws.{inside-says}
 use Rattle.paper.proofs.RowLaws.{row-law, edge-law, breaks-says}
 
+-- a rule that is kept, in a chain of rules by number
+pub pass : (b : Bool) (k r : ℕ) → cond b (suc k) r ≡ 0 → (b ≡ false) × (r ≡ 0)
+pass true k r h = absurd (omega arith)
+pass false k r h = (refl, h)
+
 module _ (e : Case) (t : Fact) where
   -- 12
   head-says : Says (((e .loops ≤ t .scope) × ¬ (t .scope ≡ none)) ⊎ ((t .block ≡ none) ⊎ ((t .limit < 1) ⊎ (e .ways < t .limit)))) (badHead e t)
@@ -115,10 +120,6 @@ module _ (e : Case) (t : Fact) where
         edges = λ i h. keeps-step i (λ a b. s .edges (e .from i) (e .to i) (i, h, refl, refl) a b);
         many = λ j h. says-false (many-says j) .1 (λ p. s .many (first + j) (within j h) (p .0) (ap (λ (i : ℕ). t .row i .number) (place j) ∙ p .1));
       }
-
-  pass : (b : Bool) (k r : ℕ) → cond b (suc k) r ≡ 0 → (b ≡ false) × (r ≡ 0)
-  pass true k r h = absurd (omega arith)
-  pass false k r h = (refl, h)
 
   -- The rows pass 16 to 18 exactly when they are sound evidence.
   pub evidence-law : (evidenceRule e t ≡ 0) ↔ SoundEvidence e t

@@ -11,9 +11,9 @@ use lib.Pow.{shl-exact, pow-pos, pow-lt, pow-mono, ones-split, high, ones-lt}
 use lib.Bits.{bitOr, or-lt}
 use lib.Count.{trailingZeros}
 use borrow.Author.Tests.{eq-eqb, ne-eqb}
-use Rattle.paper.specs.Lists.{table}
 use Rattle.paper.specs.Machines.{bitAt, victim, marked}
 use Rattle.paper.specs.NextBits.{nextBits}
+use Rattle.paper.proofs.Tables.{getD-table}
 use Rattle.paper.proofs.Least.{least-is}
 use Rattle.paper.proofs.Bits.{bit-zero, bit-suc, all-ones}
 
@@ -78,17 +78,10 @@ module _ (k p j : ℕ) (h : j < k) (g : p + 1 < 2 ^ k) where
   unfolding marked
   mark-more n = rw (mod-eq-of-lt set-low, ne-eqb _ _ n)
 
--- an entry of a table
-pub table-at : (g : ℕ → ℕ) (n i : ℕ) → i < n → getD (table g n) i 0 ≡ g i
-unfolding table
-table-at g zero i h = absurd (not-suc-le-zero h)
-table-at g (suc n) zero h = refl
-table-at g (suc n) (suc i) h = table-at (λ j. g (suc j)) n i (le-of-suc-le-suc h)
-
 -- pattern p and line j at entry 8p + j
 pub next-at : (p j : ℕ) → p < 256 → j < 8 → getD nextBits (8 * p + j) 0 ≡ marked 8 p j
 unfolding nextBits
 next-at p j h g =
     let q : (8 * p + j) / 8 ≡ p = omega arith in
     let r : (8 * p + j) % 8 ≡ j = omega arith in
-    table-at (λ i. marked 8 (i / 8) (i % 8)) 2048 (8 * p + j) (omega arith) ∙ ap₂ (marked 8) q r
+    getD-table (λ i. marked 8 (i / 8) (i % 8)) 2048 (8 * p + j) 0 (omega arith) ∙ ap₂ (marked 8) q r

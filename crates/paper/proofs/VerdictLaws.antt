@@ -22,7 +22,7 @@ use Rattle.paper.proofs.Least.{None, none-some}
 use Rattle.paper.proofs.Says.{Says, says-lt, says-or, says-false}
 use Rattle.paper.proofs.Meaning.{SoundGraph, SoundFact, Sound}
 use Rattle.paper.proofs.GraphLaws.{KeptGraph, graph-sound}
-use Rattle.paper.proofs.FactLaws.{head-sound, fetched, evidence-law}
+use Rattle.paper.proofs.FactLaws.{pass, head-sound, fetched, evidence-law}
 
 never : (r : Refusal) → Refused r ≡ Accepted → ⊥
 never r h =
@@ -53,10 +53,6 @@ module _ (f : List ℕ) (t : Trailer) where
         },
         g .1,
       )
-
-  pass : (b : Bool) (k r : ℕ) → cond b (suc k) r ≡ 0 → (b ≡ false) × (r ≡ 0)
-  pass true k r h = absurd (omega arith)
-  pass false k r h = (refl, h)
 
   -- rules 11 to 18, for fact i
   pub record KeptFact (i : ℕ) : Type 0 where
