@@ -9,8 +9,9 @@ use Rattle.paper.specs.Facts.{held, holds, badHead, badOrder, unfetched,
 use Rattle.paper.specs.Bounds.{ceil, boundOf, floorOf, covers, counts, factBound, lives, uncovered, sumOf, A, M, floorAt, setBound, totalBound, numberAt}
 use Rattle.paper.specs.Files.{u16At, u32At, trailerOf, badLetter, badLetters, badCache, badNumbers, badOffsets, nodeAt, fromAt, toAt, loopAt, factEnd, factPlace, caseOf}
 use Rattle.paper.specs.Verdicts.{graphRules, badOrderAt, factRule, badFact, factRules, rulesTo10, verdict}
+use Rattle.paper.specs.Listings.{decimalIn, decimal, line, lineOfTwo, linesFrom, boundLines, listingOf}
 use Rattle.paper.specs.Checked.{allHold, checkedNumbers}
 
 pub checked-numbers-hold : allHold checkedNumbers ≡ true
-unfolding leastFrom least some sumTo productTo lowestTo table lineOf hits pushed lruStep fifoStep bitAt victim marked nmruLine nmruStep step offered setCount inRange inside rangeOf sameSet fetches risesFrom crosses beside returns around badEdge badLoop badEntry badReturn count badCount entriesOf entries held holds badHead badOrder unfetched badSlot badRow badRowAt lacks breaks badStepAt badManyAt evidenceRule ceil boundOf floorOf covers counts factBound lives uncovered sumOf A M floorAt setBound totalBound numberAt u16At u32At trailerOf badLetter badLetters badCache badNumbers badOffsets nodeAt fromAt toAt loopAt factEnd factPlace caseOf graphRules badOrderAt factRule badFact factRules rulesTo10 verdict
+unfolding leastFrom least some sumTo productTo lowestTo table lineOf hits pushed lruStep fifoStep bitAt victim marked nmruLine nmruStep step offered setCount inRange inside rangeOf sameSet fetches risesFrom crosses beside returns around badEdge badLoop badEntry badReturn count badCount entriesOf entries held holds badHead badOrder unfetched badSlot badRow badRowAt lacks breaks badStepAt badManyAt evidenceRule ceil boundOf floorOf covers counts factBound lives uncovered sumOf A M floorAt setBound totalBound numberAt u16At u32At trailerOf badLetter badLetters badCache badNumbers badOffsets nodeAt fromAt toAt loopAt factEnd factPlace caseOf graphRules badOrderAt factRule badFact factRules rulesTo10 verdict decimalIn decimal line lineOfTwo linesFrom boundLines listingOf
 checked-numbers-hold = refl

@@ -1,16 +1,19 @@
 // Words and numbers, put one after another into a lent buffer and then written in one go.
-// What does not fit is left out, so a program lends a buffer that is large enough for all that it prints.
+ghost use Prim.Native.Nat.{_+_, _≤_};
+ghost use lib.ListN.{length};
+ghost use Rattle.paper.specs.Listings.{decimal, line as Listings·line, lineOfTwo, refusalLine};
+ghost use Rattle.print.specs.Put.{Fits, Put};
 use libc::STDOUT_FILENO;
 use paper::Refusal;
 
 // Puts a word at a place, and answers the place after it.
-pub fn word(out: &mut [u8], at: usize, word: &[u8]) -> usize {
+pub fn word(out: &mut [u8], at: usize, word: &[u8]) -> usize
+    requires { ⌜ Fits (now out) at (now word) ⌝ }
+    ensures { λ r. ⌜ Put (now (out .entry)) at (now (word .entry)) r (now (out .exit)) ⌝ }
+{
     let mut to = at;
     let mut i = 0;
     while i < word.len() {
-        if to >= out.len() {
-            return to;
-        }
         out[to] = word[i];
         to += 1;
         i += 1;
@@ -19,28 +22,40 @@ pub fn word(out: &mut [u8], at: usize, word: &[u8]) -> usize {
 }
 
 // Puts a number in decimal.
-pub fn number(out: &mut [u8], at: usize, n: u64) -> usize {
+pub fn number(out: &mut [u8], at: usize, n: u64) -> usize
+    requires { ⌜ Fits (now out) at (decimal n) ⌝ }
+    ensures { λ r. ⌜ Put (now (out .entry)) at (decimal n) r (now (out .exit)) ⌝ }
+{
     let mut digits = [0u8; 20];
     let k = io::decimal(n, &mut digits);
     word(out, at, &digits[..k])
 }
 
 // A line with one number.
-pub fn line(out: &mut [u8], at: usize, before: &[u8], n: u64) -> usize {
+pub fn line(out: &mut [u8], at: usize, before: &[u8], n: u64) -> usize
+    requires { ⌜ Fits (now out) at (Listings·line (now before) n) ⌝ }
+    ensures { λ r. ⌜ Put (now (out .entry)) at (Listings·line (now (before .entry)) n) r (now (out .exit)) ⌝ }
+{
     let after_word = word(out, at, before);
     let after_number = number(out, after_word, n);
     word(out, after_number, b"\n")
 }
 
 // A line with two numbers.
-pub fn line_of_two(out: &mut [u8], at: usize, before: &[u8], first: u64, second: u64) -> usize {
+pub fn line_of_two(out: &mut [u8], at: usize, before: &[u8], first: u64, second: u64) -> usize
+    requires { ⌜ Fits (now out) at (lineOfTwo (now before) first second) ⌝ }
+    ensures { λ r. ⌜ Put (now (out .entry)) at (lineOfTwo (now (before .entry)) first second) r (now (out .exit)) ⌝ }
+{
     let after_word = word(out, at, before);
     let after_first = number(out, after_word, first);
     line(out, after_first, b" ", second)
 }
 
-// "A refusal prints `refused`, number, place."
-pub fn refusal(out: &mut [u8], at: usize, r: Refusal) -> usize {
+// "A refusal prints `refused`, number, place." No such line is longer than 50 bytes.
+pub fn refusal(out: &mut [u8], at: usize, r: Refusal) -> usize
+    requires { ⌜ at + 50 ≤ length (now out) ⌝ }
+    ensures { λ to. ⌜ Put (now (out .entry)) at (refusalLine r) to (now (out .exit)) ⌝ }
+{
     line_of_two(out, at, b"refused ", r.number as u64, r.place as u64)
 }
 
