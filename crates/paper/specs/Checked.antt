@@ -4,11 +4,14 @@ use Prim.Native.String.{String}
 use mathlib.Core.Bool.{Bool, true, false, _&&_}
 use mathlib.Core.List.{List, [], _∷_, _++_}
 use lib.Dec.{eqb}
-use lib.ListN.{drop, replicate}
+use lib.ListN.{drop, replicate, set}
 use Rattle.paper.specs.declared.SetState.{SetState}
 use Rattle.paper.specs.declared.Stepped.{Stepped}
+use Rattle.paper.specs.declared.Verdict.{Verdict}
+use Rattle.paper.specs.declared.Verdict.the-variants.{Accepted, Refused}
 use Rattle.paper.specs.Machines.{none, step}
 use Rattle.paper.specs.Bounds.{g, boundOf, floorOf}
+use Rattle.paper.specs.Verdicts.{verdict, lentAfter}
 use Rattle.paper.specs.Listings.{bytes, listingOf}
 
 -- "A file and its listing": the 140 bytes, by policy.
@@ -37,8 +40,9 @@ pub data Checked : Type 0 where
   IsFloor : ℕ → ℕ → ℕ → ℕ → Checked
   -- a step: policy, k, the lines below k, bits, block; hit, the lines below k, bits
   IsStep : ℕ → ℕ → List ℕ → ℕ → ℕ → Bool → List ℕ → ℕ → Checked
-  -- the listing of the paper's file, by policy
+  -- the listing of the paper's file, by policy; and the 321 numbers: total, set 0, fact 0, fact 1, all others 0
   IsListing : ℕ → String → Checked
+  AreNumbers : ℕ → ℕ → ℕ → ℕ → ℕ → Checked
 
 abbrev pub sameList : List ℕ → List ℕ → Bool
 sameList [] [] = true
@@ -57,12 +61,20 @@ setOf k lines bits = record { lines = lines ++ drop k (replicate 8 none); bits =
 abbrev pub sameStep : Stepped → Bool → SetState → Bool
 sameStep t hit s = sameBool (t .hit) hit && (sameList (t .state .lines) (s .lines) && eqb (t .state .bits) (s .bits))
 
+-- 321 numbers of a lent list of 322, each 7 before the check
+abbrev pub listed : Verdict → List ℕ → List ℕ
+listed Accepted f = lentAfter f (replicate 322 7) Accepted
+listed (Refused r) f = []
+
 abbrev pub holdsAt : Checked → Bool
 holdsAt (IsG k l n) = eqb (g k l) n
 holdsAt (IsBound policy k l E N n) = eqb (boundOf policy k l E N) n
 holdsAt (IsFloor k l M n) = eqb (floorOf k l M) n
 holdsAt (IsStep policy k lines bits b hit lines′ bits′) = sameStep (step policy k (setOf k lines bits) b) hit (setOf k lines′ bits′)
 holdsAt (IsListing policy text) = sameList (listingOf (paperFile policy)) (bytes text)
+holdsAt (AreNumbers policy total set0 fact0 fact1) =
+    sameList (listed (verdict (paperFile policy) 322) (paperFile policy))
+    (set (set (set (set (replicate 321 0 ++ (7 ∷ [])) 0 total) 1 set0) 65 fact0) 66 fact1)
 
 abbrev pub allHold : List Checked → Bool
 allHold [] = true
@@ -79,6 +91,7 @@ checkedNumbers =
     ∷ IsStep 2 4 (10 ∷ 20 ∷ 12 ∷ 13 ∷ []) 11 12 true (10 ∷ 20 ∷ 12 ∷ 13 ∷ []) 4
     ∷ IsStep 1 2 (11 ∷ 10 ∷ []) 0 10 true (11 ∷ 10 ∷ []) 0
     ∷ IsStep 0 2 (11 ∷ 10 ∷ []) 0 10 true (10 ∷ 11 ∷ []) 0
+    ∷ AreNumbers 1 4 4 5 5 ∷ AreNumbers 0 2 2 1 1 ∷ AreNumbers 2 4 4 2 2
     ∷ IsListing 1 "total 4\nset 0 4\nfact 0 5\nfact 1 5\n"
     ∷ IsListing 0 "total 2\nset 0 2\nfact 0 1\nfact 1 1\n"
     ∷ IsListing 2 "total 4\nset 0 4\nfact 0 2\nfact 1 2\n"

@@ -2,7 +2,7 @@
 use Prim.Native.Nat.{ℕ, suc, _+_}
 use native.Mathlib.Omega.{arith}
 use native.Mathlib.Nat.{add-zero}
-use mathlib.Core.Path.{_≡_, refl, sym, _∙_, ap}
+use mathlib.Core.Path.{_≡_, refl, sym, _∙_, ap, subst}
 use mathlib.Core.List.{List, [], _∷_, _++_}
 use lib.ListN.{length, set, drop, length-append}
 use lib.Seq.{sets, length-sets, sets-eq}
@@ -26,6 +26,10 @@ first-fits s t h = record { room = omega (arith, length-append s t, h .room) }
 
 pub then-fits : (t : List ℕ) {l m s : List ℕ} {at to : ℕ} → Put l at s to m → Fits l at (s ++ t) → Fits m to t
 then-fits t {l} {m} {s} p h = record { room = omega (arith, length-append s t, h .room, put-length p, p .place) }
+
+-- a text that is the same fits as well
+pub fits-as : {l s t : List ℕ} {at : ℕ} → s ≡ t → Fits l at s → Fits l at t
+fits-as {l} {s} {t} {at} e h = subst (λ (text : List ℕ). Fits l at text) e h
 
 pub put-then : {l m n s t : List ℕ} {at to end : ℕ} → Put l at s to m → Put m to t end n → Put l at (s ++ t) end n
 put-then {l} {m} {n} {s} {t} {at} p q =

@@ -1,6 +1,7 @@
 -- `listing::lines` puts one line after another: after i of them the others are left. Assumes nothing.
 use Prim.Native.Nat.{_-_}
 use native.Mathlib.Nat.{sub-zero}
+use native.Mathlib.Omega.{arith}
 use borrow.Author.Needs.{needs}
 use Rattle.paper.specs.Listings.{linesFrom, linesTo}
 use Rattle.print.proofs.Putting.{Left, left-start, left-fits, left-more, left-end, first-fits}
@@ -21,15 +22,15 @@ loop-holds c = rw sub-zero left-start
 line-of-two-requires : tie.Need-line-of-two-requires Inv-loop μ-loop
 line-of-two-requires c κs =
     let l = c .before .before .before in
-    first-fits _ _ (left-fits (l .before .before .before .before .pre .1) (next-line _ _ _ _ (l .loop .inv) (c .before .before .loop-test .taken)))
+    first-fits _ _ (left-fits (l .before .before .before .before .pre .1) (next-line _ _ _ _ (l .loop .inv) (omega (arith, c .before .before .loop-test .taken))))
 
 loop-again : tie.Need-loop-again Inv-loop μ-loop
 loop-again c =
     let t = c .before .before .before .before .before in
-    left-more (c .before .before .line-of-two .ensures) (next-line _ _ _ _ (t .before .loop .inv) (t .loop-test .taken))
+    left-more (c .before .before .line-of-two .ensures) (next-line _ _ _ _ (t .before .loop .inv) (omega (arith, t .loop-test .taken)))
 
 returns : tie.Need-returns Inv-loop μ-loop
-returns c = left-end (no-line _ _ _ _ (c .before .loop .inv) (c .loop-test .left))
+returns c = left-end (no-line _ _ _ _ (c .before .loop .inv) (omega (arith, c .loop-test .left)))
 
 pub lines-spec : {M : Type 1} → statement M
 lines-spec =

@@ -1,13 +1,15 @@
 -- `print::number` puts what `io::decimal` makes, which is the number in decimal. Assumes nothing.
+use mathlib.Core.Path.{sym, _∙_}
 use borrow.Author.Needs.{needs}
 use Rattle.print.proofs.Decimals.{decimal-digits}
+use Rattle.print.proofs.Putting.{fits-as}
 use Rattle.print.proofs.number.Statement.{statement}
 use Rattle.print.proofs.number.Tie as tie
 
 word-requires : tie.Need-word-requires
 word-requires c κs =
     let d = c .before .before in
-    rw (d .decimal .ensures .1 .1, ← decimal-digits _ _ (d .decimal .ensures .1 .0)) (d .before .before .before .pre)
+    fits-as (decimal-digits _ _ (d .decimal .ensures .1 .0) ∙ sym (d .decimal .ensures .1 .1)) (d .before .before .before .pre)
 
 returns : tie.Need-returns
 returns c =
