@@ -12,6 +12,7 @@ use Rattle.paper.specs.Lists.{productTo}
 use Rattle.paper.specs.Machines.{none}
 use Rattle.paper.specs.Cases.{Case, inside}
 use Rattle.paper.specs.Graphs.{count, around, entriesOf}
+use Rattle.paper.proofs.Sums.{product-same}
 use Rattle.paper.proofs.Meaning.{In, SoundGraph}
 use Rattle.paper.proofs.Says.{says-is, says-false, says-same}
 use Rattle.paper.proofs.GraphLaws.{inside-says, around-says}
@@ -24,11 +25,6 @@ use Rattle.charge.specs.Ready.{Ready}
 use Rattle.charge.specs.Tables.{entriesIn}
 
 module _ (F G : ℕ → ℕ) where
-  product-same : (n : ℕ) → ((j : ℕ) → j < n → F j ≡ G j) → productTo F n ≡ productTo G n
-  unfolding productTo
-  product-same zero h = refl
-  product-same (suc n) h = ap₂ (λ (x y : ℕ). x * y) (product-same n (λ j l. h j (omega arith))) (h n (omega arith))
-
   -- two products that agree but at w
   product-but : (w b n : ℕ) → F w ≡ G w * b → ((j : ℕ) → j < n → j ≢ w → F j ≡ G j) → w < n → productTo F n ≡ productTo G n * b
   unfolding productTo
@@ -37,7 +33,7 @@ module _ (F G : ℕ → ℕ) where
       elim (ℕ-discrete n w) [
         | yes q ↦
             rw q
-            (ap₂ (λ (x y : ℕ). x * y) (product-same w (λ j k. h j (omega arith) (omega arith))) e
+            (ap₂ (λ (x y : ℕ). x * y) (product-same F G w (λ j k. h j (omega arith) (omega arith))) e
             ∙ sym (mul-assoc (productTo G w) (G w) b))
         | no q ↦
             ap₂ (λ (x y : ℕ). x * y) (product-but w b n e (λ j k. h j (omega arith)) (omega arith)) (h n (omega arith) q)

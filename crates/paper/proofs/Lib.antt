@@ -17,3 +17,7 @@ pub mod Carries
 pub mod Masks
 pub mod Moves
 pub mod StepLaws
+pub mod Parts
+pub mod Sections
+pub mod SameGraphs
+pub mod SameFacts

@@ -1,10 +1,10 @@
--- The laws of a loop that adds, and of one that takes the least. Assumes nothing.
+-- The laws of a loop that adds, of one that takes the least, and of products that agree. Assumes nothing.
 use Prim.Native.Nat.{ℕ, zero, suc, _+_, _*_, _≤_, _<_, min}
 use native.Mathlib.Omega.{arith}
 use native.Mathlib.Numerals.{add-one}
 use native.Mathlib.Nat.{mul-suc, mul-zero}
 use mathlib.Core.Path.{_≡_, refl, sym, _∙_, ap}
-use Rattle.paper.specs.Lists.{sumTo, lowestTo}
+use Rattle.paper.specs.Lists.{sumTo, productTo, lowestTo}
 
 -- a loop that adds numbers of at most b has come to j with x
 pub record Added (g : ℕ → ℕ) (b n x j : ℕ) : Type 0 where
@@ -51,3 +51,8 @@ module _ (g : ℕ → ℕ) (a n : ℕ) where
   lowest-end x j w h =
       let z : n ≡ j = omega (arith, w .within) in
       (rw z (w .is), w .small)
+
+pub product-same : (g h : ℕ → ℕ) (n : ℕ) → ((j : ℕ) → j < n → g j ≡ h j) → productTo g n ≡ productTo h n
+unfolding productTo
+product-same g h zero e = refl
+product-same g h (suc n) e = rw (product-same g h n (λ j l. e j (omega arith)), e n (omega arith)) refl

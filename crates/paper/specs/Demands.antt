@@ -13,7 +13,8 @@ use Rattle.paper.specs.Walks.{Edge, Walk, KeepsLimits}
 use Rattle.paper.specs.Runs.{LegalContent, Fetch, run, misses, ofFact, ofSet}
 use Rattle.paper.specs.Facts.{badHead, unfetched, evidenceRule}
 use Rattle.paper.specs.Files.{rowAt, readCase}
-use Rattle.paper.specs.Verdicts.{rulesTo10}
+use Rattle.paper.specs.Verdicts.{rulesTo10, verdict}
+use Rattle.paper.specs.OneFact.{fileWith}
 
 -- "on every walk from node 0 that keeps the loop limits and for every legal cache content at the start, the misses of each fact's accesses, of each set
 -- and in all never exceed the printed bounds": the numbers are those of the lent list.
@@ -83,6 +84,12 @@ module _ (e : Case) (t : Fact) where
     pub whole : length rows ≡ 16 * size (scopeOf e t)
     pub passes : evidenceRule e (withRows rows) ≡ 0
 
+-- Evidence that the tool accepts: rows with which the file that has f's graph, and this fact alone, is accepted. `room` is the length of the lent list.
+pub record AcceptedEvidence (f : List ℕ) (t : Fact) (room : ℕ) : Type 0 where
+  pub rows : List ℕ
+  pub bytes : Bytes (fileWith f t rows)
+  pub accepted : verdict (fileWith f t rows) room ≡ Accepted
+
 -- "for an otherwise sound fact, evidence that the tool accepts exists exactly when …": "one that passes 12 to 14 in a file that passes 1 to 10"
 -- (13 compares it with the fact before it, and plays no part).
 abbrev pub EvidenceExact : List ℕ → Type 0
@@ -92,4 +99,6 @@ EvidenceExact f =
     → (t : Fact)
     → badHead (readCase f) t ≡ false
     → unfetched (readCase f) t ≡ false
-    → Evidence (readCase f) t ↔ FewGathered (readCase f) t
+    → (room : ℕ)
+    → 321 ≤ room
+    → AcceptedEvidence f t room ↔ FewGathered (readCase f) t

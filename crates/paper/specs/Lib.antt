@@ -11,6 +11,7 @@ pub mod Facts
 pub mod Bounds
 pub mod Files
 pub mod Verdicts
+pub mod OneFact
 pub mod Listings
 pub mod Demands
 pub mod Checked

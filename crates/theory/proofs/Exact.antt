@@ -1,25 +1,32 @@
 -- Demand 3, second half: evidence that the tool accepts exists exactly when few enough blocks can have gathered. Assumes nothing.
 use Prim.Native.Nat.{ℕ, zero, suc, _+_, _*_, _-_, _≤_, _<_}
 use native.Mathlib.Omega.{arith}
+use native.Mathlib.Decide.{ℕ-discrete}
 use mathlib.Core.Path.{_≡_, refl, sym, _∙_, subst}
 use mathlib.Core.Logic.{_↔_}
-use mathlib.Core.Bool.{true}
+use mathlib.Core.Bool.{true, false}
 use mathlib.Core.List.{List, [], _∷_, List·Memᴰ·head, List·Memᴰ·tail}
 use lib.ListN.{getD}
 use Rattle.paper.specs.declared.Loop.{Loop}
+use Rattle.paper.specs.declared.Verdict.the-variants.{Accepted}
+use Rattle.paper.specs.Machines.{none}
 use Rattle.paper.specs.Cases.{Row, Fact, Case, inside, size, scopeOf}
-use Rattle.paper.specs.Files.{u16At, nodeAt, rowAt, caseOf, readCase}
+use Rattle.paper.specs.Facts.{badHead, unfetched}
+use Rattle.paper.specs.Files.{u16At, trailerOf, nodeAt, rowAt, caseOf, readCase}
+use Rattle.paper.specs.Verdicts.{rulesTo10}
 use Rattle.paper.specs.Demands.{Bytes, Gathered, FewGathered, withRows, Evidence, EvidenceExact}
 use Rattle.paper.proofs.Says.{says-true, says-is}
 use Rattle.paper.proofs.States.{says-range}
 use Rattle.paper.proofs.GraphLaws.{inside-says}
-use Rattle.paper.proofs.FactLaws.{head-sound, evidence-law}
-use Rattle.paper.proofs.VerdictLaws.{ten-kept}
+use Rattle.paper.proofs.FactLaws.{head-sound, fetched, evidence-law}
+use Rattle.paper.proofs.VerdictLaws.{in-numbers, ten-kept}
 use Rattle.paper.proofs.Meaning.{In, SoundEvidence}
 use Rattle.theory.proofs.SameRow.{Same, same-sound, same-rule}
 use Rattle.theory.proofs.RowBytes.{written, written-length, written-small, written-row}
 use Rattle.theory.proofs.Needed.{sound-few}
 use Rattle.theory.proofs.Enough.{row, row-sound, row-small, row-few, row-rule}
+use Rattle.theory.proofs.OneFact.{one-fact}
+use Rattle.theory.proofs.OneBytes.{rows-bytes, file-bytes}
 
 module _ (e : Case) (t : Fact) (small : (v : ℕ) → e .block v < 65536) (low : t .limit ≤ 8) where
   abbrev scope : Loop
@@ -92,9 +99,40 @@ block-small : (f : List ℕ) → Bytes f → (v : ℕ) → nodeAt f v < 65536
 unfolding nodeAt u16At
 block-small f h v = omega (arith, byte-at f h (2 * v), byte-at f h (2 * v + 1))
 
-pub file-exact : (f : List ℕ) → EvidenceExact f
+-- The same of a file that passes 1 to 10 and an otherwise sound fact, with rows in a list of their own.
+pub rows-exact : (f : List ℕ) → Bytes f → rulesTo10 f Accepted ≡ Accepted → (t : Fact) → badHead (readCase f) t ≡ false →
+    Evidence (readCase f) t ↔ FewGathered (readCase f) t
 unfolding caseOf
-file-exact f bytes passes t head fetched =
+rows-exact f bytes passes t head =
     let h = head-sound (readCase f) t head in
     let k = says-true (says-range _ _ _) (ten-kept f _ passes .0 .cache) .0 .most in
     evidence-exact (readCase f) t (block-small f bytes) (omega (arith, h .high)) (h .low)
+
+-- the head of an otherwise sound fact fits its 16-bit numbers
+head-bytes : (f : List ℕ) → Bytes f → rulesTo10 f Accepted ≡ Accepted → (t : Fact) → badHead (readCase f) t ≡ false → unfetched (readCase f) t ≡ false →
+    (t .scope < 65536) × (t .block < 65536) × (t .limit < 65536)
+unfolding caseOf
+head-bytes f bytes passes t head found =
+    let h = head-sound (readCase f) t head in
+    let k = ten-kept f _ passes .0 in
+    let c = says-true (says-range _ _ _) (k .cache) .0 .most in
+    let n = in-numbers (trailerOf f) (k .numbers) .loops in
+    let w = fetched (readCase f) t found in
+    let scope : t .scope < 65536 = elim (ℕ-discrete (t .scope) none) [ yes p ↦ omega arith | no q ↦ omega (arith, h .scope q) ] in
+    (scope, omega (arith, w .2, block-small f bytes (w .0)), omega (arith, h .high))
+
+pub file-exact : (f : List ℕ) → EvidenceExact f
+file-exact f bytes passes t head found room long =
+    let exact = rows-exact f bytes passes t head in
+    let b = head-bytes f bytes passes t head found in (
+      λ a.
+          let r = one-fact f t (a .rows) passes head found room long .0 (a .accepted) in
+          exact .0 (record { rows = a .rows; bytes = rows-bytes f t (a .rows) (a .bytes); whole = r .0; passes = r .1 }),
+      λ few.
+          let x = exact .1 few in
+          record {
+            rows = x .rows;
+            bytes = file-bytes f t (x .rows) bytes (b .0) (b .1) (b .2) (x .bytes);
+            accepted = one-fact f t (x .rows) passes head found room long .1 (x .whole, x .passes);
+          },
+    )

@@ -45,4 +45,7 @@ pub mod Needed
 pub mod Enough
 pub mod SameRow
 pub mod RowBytes
+pub mod OneFile
+pub mod OneFact
+pub mod OneBytes
 pub mod Exact

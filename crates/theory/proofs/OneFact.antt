@@ -1,0 +1,209 @@
+-- The file of one fact holds the same graph, and the fact with its rows. So it is accepted exactly when the rows are as long as they must be and pass.
+use Prim.Native.Nat.{ℕ, zero, suc, _+_, _*_, _≤_, _<_}
+use native.Mathlib.Omega.{arith}
+use mathlib.Core.Path.{_≡_, refl, sym, _∙_, ap, subst}
+use mathlib.Core.Logic.{_≢_, _↔_}
+use mathlib.Core.Bool.{false, not}
+use mathlib.Core.List.{List, [], _∷_}
+use lib.Dec.{eqb}
+use lib.ListN.{length, getD}
+use borrow.Author.Tests.{le-ltb, ltb-false, eqb-true, not-false}
+use Rattle.paper.specs.declared.Loop.{Loop}
+use Rattle.paper.specs.declared.Trailer.{Trailer}
+use Rattle.paper.specs.declared.Verdict.{Verdict}
+use Rattle.paper.specs.declared.Verdict.the-variants.{Accepted}
+use Rattle.paper.specs.Machines.{none}
+use Rattle.paper.specs.Cases.{Fact, size, rangeOf, scopeOf, fetches}
+use Rattle.paper.specs.Graphs.{badEdge, badLoop, badEntry, badReturn, badCount}
+use Rattle.paper.specs.Facts.{badHead, unfetched, evidenceRule}
+use Rattle.paper.specs.Files.{u16At, u32At, endAt, trailerOf, badCache, edgesAt, loopsAt, factsAt, nodeAt, fromAt, toAt, loopAt, factEnd, factPlace, caseOf, readCase}
+use Rattle.paper.specs.Verdicts.{graphRules, badOrderAt, factRule, badFact, factRules, rulesTo10, verdict}
+use Rattle.paper.specs.OneFact.{graphBytes, fileWith}
+use Rattle.paper.specs.Demands.{withRows}
+use Rattle.paper.proofs.Least.{some-none, none-some}
+use Rattle.paper.proofs.GraphLaws.{KeptGraph}
+use Rattle.paper.proofs.FactLaws.{head-sound, evidence-law}
+use Rattle.paper.proofs.VerdictLaws.{past, KeptLayout, in-numbers, ten-kept, fact-kept}
+use Rattle.paper.proofs.Parts.{stands-self, stands-take}
+use Rattle.paper.proofs.Sections.{word-is, u16-same, u32-same}
+use Rattle.paper.proofs.SameGraphs.{SameGraph, graph-same, range-same}
+use Rattle.paper.proofs.SameFacts.{SameFact, head-same, unfetched-same, evidence-same}
+use Rattle.theory.proofs.OneFile.{oneOf, graph-length, graph-part, head-part, rows-part, end-is, trailer-is, layout-kept}
+
+-- A file that keeps the rules 1 to 10 is judged by its facts.
+module _ (f : List ℕ) (t : Trailer) where
+  graph-on : KeptGraph (caseOf f t) → (rest : Verdict) → graphRules f t rest ≡ rest
+  unfolding graphRules caseOf
+  graph-on k rest =
+      rw (
+        some-none (badEdge (caseOf f t)) (t .edges) (k .edges),
+        some-none (badLoop (caseOf f t)) (t .loops) (k .loops),
+        some-none (badEntry (caseOf f t)) (t .edges) (k .entries),
+        some-none (badReturn (caseOf f t)) (t .edges) (k .returns),
+        some-none (badCount (caseOf f t)) (t .nodes) (k .counts),
+      )
+      refl
+
+  pub judged-by-facts : trailerOf f ≡ t → KeptLayout f t → KeptGraph (caseOf f t) → (room : ℕ) → 321 ≤ room → verdict f room ≡ factRules f t
+  unfolding verdict rulesTo10 badCache
+  judged-by-facts e l k room h =
+      rw (e, le-ltb room 321 h, le-ltb (length f) 32 (l .long), l .letters, l .cache, l .numbers, l .offsets) (graph-on k (factRules f t))
+
+module _ (f : List ℕ) (t : Fact) (rows : List ℕ) (k : KeptLayout f (trailerOf f)) where
+  abbrev file : List ℕ
+  file = fileWith f t rows
+
+  abbrev one : Trailer
+  one = oneOf f
+
+  abbrev place : ℕ
+  place = factsAt one
+
+  graph-word : (p : ℕ) → p + 2 ≤ place → u16At f p ≡ u16At file p
+  graph-word p l =
+      ap (λ (q : ℕ). u16At f q) (omega arith)
+      ∙ u16-same f file 0 0 (graphBytes f) (stands-take f 0 place f (stands-self f)) (graph-part f t rows k) p (omega (arith, graph-length f t rows k))
+      ∙ ap (λ (q : ℕ). u16At file q) (omega arith)
+
+  graph-double : (p : ℕ) → p + 4 ≤ place → u32At f p ≡ u32At file p
+  graph-double p l =
+      ap (λ (q : ℕ). u32At f q) (omega arith)
+      ∙ u32-same f file 0 0 (graphBytes f) (stands-take f 0 place f (stands-self f)) (graph-part f t rows k) p (omega (arith, graph-length f t rows k))
+      ∙ ap (λ (q : ℕ). u32At file q) (omega arith)
+
+  -- The file holds f's graph.
+  pub same-graph : SameGraph (readCase f) (caseOf file one)
+  unfolding caseOf nodeAt fromAt toAt loopAt
+  same-graph =
+      record {
+        policy = refl;
+        ways = refl;
+        sets = refl;
+        nodes = refl;
+        edges = refl;
+        loops = refl;
+        fetch = λ v l. graph-word (2 * v) (omega arith);
+        from = λ i l. graph-word (edgesAt one + 4 * i) (omega arith);
+        to = λ i l. graph-word (edgesAt one + 4 * i + 2) (omega arith);
+        loop = λ j l.
+            rw (
+              graph-word (loopsAt one + 8 * j) (omega arith),
+              graph-word (loopsAt one + 8 * j + 2) (omega arith),
+              graph-double (loopsAt one + 8 * j + 4) (omega arith),
+            )
+            refl;
+      }
+
+  -- The fact that it holds has t's head, and these rows as far as they go.
+  head-word : (i p : ℕ) → i < 3 → p ≡ place + 2 * i → getD (t .scope ∷ t .block ∷ t .limit ∷ []) i 0 ≡ u16At file p
+  head-word i p l e = sym (ap (λ (q : ℕ). u16At file q) e ∙ word-is file place (t .scope ∷ t .block ∷ t .limit ∷ []) (head-part f t rows k) i l)
+
+  row-word : (p q : ℕ) → q ≡ place + 6 + p → p + 2 ≤ length rows → u16At rows p ≡ u16At file q
+  row-word p q e l =
+      ap (λ (r : ℕ). u16At rows r) (omega arith)
+      ∙ u16-same rows file 0 (place + 6) rows (stands-self rows) (rows-part f t rows k) p l
+      ∙ ap (λ (r : ℕ). u16At file r) (sym e)
+
+  pub same-fact : (n : ℕ) → 16 * n ≤ length rows → SameFact n (withRows (readCase f) t rows) (caseOf file one .fact 0)
+  unfolding caseOf factPlace
+  same-fact n h =
+      record {
+        scope = head-word 0 place (omega arith) (omega arith);
+        block = head-word 1 (place + 2) (omega arith) (omega arith);
+        limit = head-word 2 (place + 4) (omega arith) (omega arith);
+        rows = λ j l.
+            record {
+              number = row-word (16 * j) (place + 6 + 16 * j) (omega arith) (omega arith);
+              slot = λ i m. row-word (16 * j + 2 + 2 * i) (place + 6 + 16 * j + 2 + 2 * i) (omega arith) (omega arith);
+            };
+      }
+
+  module _ (g : KeptGraph (readCase f)) (h : badHead (readCase f) t ≡ false) where
+    abbrev scope : Loop
+    scope = scopeOf (readCase f) t
+
+    there : t .scope ≢ none → t .scope < trailerOf f .loops
+    unfolding caseOf
+    there = head-sound (readCase f) t h .scope
+
+    scope-is : scope ≡ rangeOf (one .nodes) (loopAt file one) (t .scope)
+    unfolding caseOf
+    scope-is = range-same (readCase f) (caseOf file one) same-graph (t .scope) there
+
+    -- where the fact ends
+    end-of-fact : factPlace file one 1 ≡ place + 6 + 16 * size scope
+    unfolding factPlace factEnd
+    end-of-fact = rw (← head-word 0 place (omega arith) (omega arith)) (ap (λ (l : Loop). place + 6 + 16 * size l) (sym scope-is))
+
+    -- the fact ends where the trailer begins: 15, "rows cut short", and 19, "bytes left between last fact and trailer"
+    accepted-one : factRules file one ≡ Accepted → (length rows ≡ 16 * size scope) × (evidenceRule (caseOf file one) (caseOf file one .fact 0) ≡ 0)
+    unfolding factRules badFact factPlace
+    accepted-one a =
+        let b = past _ _ _ _ a in
+        let kept = fact-kept file one 0 (eqb-true _ _ (not-false _ (none-some _ 1 (b .0) 0 (omega arith)))) in
+        let end : endAt file ≤ factPlace file one 1 = ltb-false _ _ (past _ 19 0 _ (b .1) .0) in
+        (omega (arith, kept .room, end, end-is f t rows k, end-of-fact), evidence-law _ _ .1 (kept .sound .evidence))
+
+    module _ (fetched : unfetched (readCase f) t ≡ false) (whole : length rows ≡ 16 * size scope) where
+      abbrev with : Fact
+      with = withRows (readCase f) t rows
+
+      abbrev read : Fact
+      read = caseOf file one .fact 0
+
+      same : SameFact (size scope) with read
+      same = same-fact (size scope) (omega arith)
+
+      some-node : 1 ≤ trailerOf f .nodes
+      some-node = in-numbers (trailerOf f) (k .numbers) .nodes-low
+
+      same-evidence : evidenceRule (readCase f) with ≡ evidenceRule (caseOf file one) read
+      unfolding caseOf
+      same-evidence = evidence-same (readCase f) (caseOf file one) same-graph with read same g some-node there
+
+      same-head : badHead (caseOf file one) read ≡ false
+      unfolding badHead
+      same-head = sym (head-same (readCase f) (caseOf file one) same-graph with read same) ∙ h
+
+      same-fetched : unfetched (caseOf file one) read ≡ false
+      unfolding caseOf unfetched fetches
+      same-fetched = sym (unfetched-same (readCase f) (caseOf file one) same-graph with read same g some-node there) ∙ fetched
+
+      rule-kept : evidenceRule (readCase f) with ≡ 0 → factRule file one 0 ≡ 0
+      unfolding factRule badOrderAt factPlace
+      rule-kept a =
+          rw (
+            le-ltb (endAt file) (place + 6) (omega (arith, end-is f t rows k)),
+            same-head,
+            same-fetched,
+            le-ltb (endAt file) (factEnd file one place) (omega (arith, end-is f t rows k, end-of-fact)),
+          )
+          (sym same-evidence ∙ a)
+
+      one-accepted : evidenceRule (readCase f) with ≡ 0 → factRules file one ≡ Accepted
+      unfolding factRules badFact
+      one-accepted a =
+          rw (some-none (badFact file one) 1 first, le-ltb (factPlace file one 1) (endAt file) (omega (arith, end-is f t rows k, end-of-fact))) refl
+        where
+          first : (i : ℕ) → i < 1 → not (eqb (factRule file one i) 0) ≡ false
+          first zero l = rw (rule-kept a) refl
+          first (suc i) l = absurd (omega arith)
+
+-- What the file of one fact holds, but for its facts, is what f holds.
+pub one-graph : (f : List ℕ) (t : Fact) (rows : List ℕ) → rulesTo10 f Accepted ≡ Accepted → SameGraph (readCase f) (readCase (fileWith f t rows))
+one-graph f t rows passes =
+    let k = ten-kept f Accepted passes .0 in
+    subst (λ (s : Trailer). SameGraph (readCase f) (caseOf (fileWith f t rows) s)) (sym (trailer-is f t rows k)) (same-graph f t rows k)
+
+-- For a graph that passes 1 to 10 and an otherwise sound fact, the file with that graph and this one fact with these rows is accepted exactly when the rows pass.
+pub one-fact : (f : List ℕ) (t : Fact) (rows : List ℕ) → rulesTo10 f Accepted ≡ Accepted → badHead (readCase f) t ≡ false → unfetched (readCase f) t ≡ false →
+    (room : ℕ) → 321 ≤ room →
+    (verdict (fileWith f t rows) room ≡ Accepted) ↔ ((length rows ≡ 16 * size (scopeOf (readCase f) t)) × (evidenceRule (readCase f) (withRows (readCase f) t rows) ≡ 0))
+one-fact f t rows passes head fetched room long =
+    let k = ten-kept f Accepted passes in
+    let by = judged-by-facts (fileWith f t rows) (oneOf f) (trailer-is f t rows (k .0)) (layout-kept f t rows (k .0)) (graph-same _ _ (same-graph f t rows (k .0)) (k .1)) room long in (
+      λ a.
+          let r = accepted-one f t rows (k .0) (k .1) head (sym by ∙ a) in
+          (r .0, same-evidence f t rows (k .0) (k .1) head fetched (r .0) ∙ r .1),
+      λ a. by ∙ one-accepted f t rows (k .0) (k .1) head fetched (a .0) (a .1),
+    )
