@@ -1,33 +1,62 @@
--- Two outcomes that a promise allows coincide: no promise leaves an answer or an element of lent memory open. Assumes nothing.
+-- A promise gives the answer itself, since what an answer tells determines it; so two outcomes that a promise allows coincide: no promise leaves an answer or an element of lent memory open.
 use Prim.Native.Nat.{ℕ}
 use mathlib.Core.Path.{_≡_, sym, _∙_, ap}
 use mathlib.Core.List.{List}
+use lib.ListN.{length}
 use Rattle.paper.specs.declared.SetState.{SetState}
 use Rattle.paper.specs.declared.Address.{Address}
 use Rattle.paper.specs.declared.Block.{Block}
+use Rattle.paper.specs.declared.Outcome.{Outcome}
 use Rattle.paper.specs.declared.StepAnswer.{StepAnswer}
 use Rattle.paper.specs.declared.BlockAnswer.{BlockAnswer}
 use Rattle.paper.specs.declared.SetAnswer.{SetAnswer}
 use Rattle.paper.specs.declared.TraceAnswer.{TraceAnswer}
 use Rattle.paper.specs.declared.Verdict.{Verdict}
-use Rattle.paper.specs.Verdicts.{lentAfter}
+use Rattle.paper.specs.Operations.{stepAnswer, blockAnswer, setAnswer}
+use Rattle.paper.specs.Traces.{traceRun}
+use Rattle.paper.specs.Verdicts.{verdict, lentAfter}
+use Rattle.paper.proofs.AnswerLaws.{same-verdict, same-trace, same-outcome, same-block, same-set}
 use Rattle.bolgverk.specs.Promises.{StepPromise, BlockPromise, SetPromise, TracePromise, CheckPromise}
 
-pub step-determined : (policy ways : ℕ) (s : SetState) (b : Block) (r r′ : StepAnswer) → StepPromise policy ways s b r → StepPromise policy ways s b r′ → r ≡ r′
-step-determined policy ways s b r r′ p q = p .answer ∙ sym (q .answer)
+answer-of : (r r′ : StepAnswer) → r .state ≡ r′ .state → r .outcome ≡ r′ .outcome → r ≡ r′
+answer-of r r′ s o =
+    ap (λ (t : SetState). record { state = t; outcome = r .outcome }) s ∙ ap (λ (t : Outcome). record { state = r′ .state; outcome = t }) o
 
-pub block-determined : (a : Address) (n : ℕ) (r r′ : BlockAnswer) → BlockPromise a n r → BlockPromise a n r′ → r ≡ r′
-block-determined a n r r′ p q = p .answer ∙ sym (q .answer)
+module _ (policy ways : ℕ) (s : SetState) (b : Block) where
+  pub step-answer : (r : StepAnswer) → StepPromise policy ways s b r → r ≡ stepAnswer policy ways s b
+  step-answer r p = answer-of r _ (p .state) (same-outcome _ _ (p .told))
 
-pub set-determined : (b : Block) (sets : ℕ) (r r′ : SetAnswer) → SetPromise b sets r → SetPromise b sets r′ → r ≡ r′
-set-determined b sets r r′ p q = p .answer ∙ sym (q .answer)
+  pub step-determined : (r r′ : StepAnswer) → StepPromise policy ways s b r → StepPromise policy ways s b r′ → r ≡ r′
+  step-determined r r′ p q = step-answer r p ∙ sym (step-answer r′ q)
 
-pub trace-determined : (policy ways sets : ℕ) (blocks lent : List ℕ) (r r′ : TraceAnswer) (after after′ : List ℕ) →
-    TracePromise policy ways sets blocks lent r after → TracePromise policy ways sets blocks lent r′ after′ → (r ≡ r′) × (after ≡ after′)
-trace-determined policy ways sets blocks lent r r′ after after′ p q = (p .answer ∙ sym (q .answer), p .marks ∙ sym (q .marks))
+module _ (a : Address) (n : ℕ) where
+  pub block-answer : (r : BlockAnswer) → BlockPromise a n r → r ≡ blockAnswer a n
+  block-answer r p = same-block _ _ (p .told)
 
-pub check-determined : (file lent : List ℕ) (r r′ : Verdict) (after after′ : List ℕ) →
-    CheckPromise file lent r after → CheckPromise file lent r′ after′ → (r ≡ r′) × (after ≡ after′)
-check-determined file lent r r′ after after′ p q =
-    let e : r ≡ r′ = p .answer ∙ sym (q .answer) in
-    (e, p .numbers ∙ ap (lentAfter file lent) e ∙ sym (q .numbers))
+  pub block-determined : (r r′ : BlockAnswer) → BlockPromise a n r → BlockPromise a n r′ → r ≡ r′
+  block-determined r r′ p q = block-answer r p ∙ sym (block-answer r′ q)
+
+module _ (b : Block) (sets : ℕ) where
+  pub set-answer : (r : SetAnswer) → SetPromise b sets r → r ≡ setAnswer b sets
+  set-answer r p = same-set _ _ (p .told)
+
+  pub set-determined : (r r′ : SetAnswer) → SetPromise b sets r → SetPromise b sets r′ → r ≡ r′
+  set-determined r r′ p q = set-answer r p ∙ sym (set-answer r′ q)
+
+module _ (policy ways sets : ℕ) (blocks lent : List ℕ) where
+  pub trace-answer : (r : TraceAnswer) (after : List ℕ) → TracePromise policy ways sets blocks lent r after → r ≡ traceRun policy ways sets blocks lent .answer
+  trace-answer r after p = same-trace _ _ (p .told)
+
+  pub trace-determined : (r r′ : TraceAnswer) (after after′ : List ℕ) →
+      TracePromise policy ways sets blocks lent r after → TracePromise policy ways sets blocks lent r′ after′ → (r ≡ r′) × (after ≡ after′)
+  trace-determined r r′ after after′ p q = (trace-answer r after p ∙ sym (trace-answer r′ after′ q), p .marks ∙ sym (q .marks))
+
+module _ (file lent : List ℕ) where
+  pub check-answer : (r : Verdict) (after : List ℕ) → CheckPromise file lent r after → r ≡ verdict file (length lent)
+  check-answer r after p = same-verdict _ _ (p .told)
+
+  pub check-determined : (r r′ : Verdict) (after after′ : List ℕ) →
+      CheckPromise file lent r after → CheckPromise file lent r′ after′ → (r ≡ r′) × (after ≡ after′)
+  check-determined r r′ after after′ p q =
+      let e : r ≡ r′ = check-answer r after p ∙ sym (check-answer r′ after′ q) in
+      (e, p .numbers ∙ ap (lentAfter file lent) e ∙ sym (q .numbers))

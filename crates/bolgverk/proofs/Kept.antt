@@ -5,6 +5,7 @@ use mathlib.Core.List.{List, _++_}
 use lib.ListN.{length, drop}
 use Rattle.paper.specs.declared.Verdict.{Verdict}
 use Rattle.paper.specs.declared.Verdict.the-variants.{Accepted}
+use Rattle.paper.specs.Answers.{toldVerdict}
 use Rattle.paper.specs.Files.{readCase}
 use Rattle.paper.specs.Verdicts.{verdict, lentAfter}
 use Rattle.paper.specs.Demands.{Holds}
@@ -15,7 +16,7 @@ use Rattle.bolgverk.specs.Promises.{CheckPromise}
 pub check-kept : (file lent : List ℕ) (r : Verdict) (after : List ℕ) → r ≡ verdict file (length lent) → after ≡ lentAfter file lent r → CheckPromise file lent r after
 check-kept file lent r after a n =
     record {
-      answer = a;
+      told = ap toldVerdict a;
       numbers = n;
       holds = λ e.
           let z : after ≡ lentAfter file lent Accepted = n ∙ ap (lentAfter file lent) e in

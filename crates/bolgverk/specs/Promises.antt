@@ -1,4 +1,5 @@
 -- What each public operation promises: a relation between what it is handed and what comes out, lent memory included.
+-- An answer is promised by what it tells, the paper's number, place and values (Answers): that determines it (crates/bolgverk/proofs/Determined.antt).
 use Prim.Native.Nat.{ℕ}
 use mathlib.Core.Path.{_≡_}
 use mathlib.Core.List.{List}
@@ -12,29 +13,32 @@ use Rattle.paper.specs.declared.SetAnswer.{SetAnswer}
 use Rattle.paper.specs.declared.TraceAnswer.{TraceAnswer}
 use Rattle.paper.specs.declared.Verdict.{Verdict}
 use Rattle.paper.specs.declared.Verdict.the-variants.{Accepted}
+use Rattle.paper.specs.Answers.{toldVerdict, toldTrace, toldOutcome, toldBlock, toldSet}
 use Rattle.paper.specs.Operations.{stepAnswer, blockAnswer, setAnswer}
 use Rattle.paper.specs.Traces.{traceRun}
 use Rattle.paper.specs.Files.{readCase}
 use Rattle.paper.specs.Verdicts.{verdict, lentAfter}
 use Rattle.paper.specs.Demands.{Holds, EvidenceExact}
 
-pub record StepPromise (policy ways : ℕ) (state : SetState) (block : Block) (r : StepAnswer) : Type 0 where
-  pub answer : r ≡ stepAnswer policy ways state block
+-- A step's answer is a state and an outcome.
+pub record StepPromise (policy ways : ℕ) (given : SetState) (block : Block) (r : StepAnswer) : Type 0 where
+  pub told : toldOutcome (r .outcome) ≡ toldOutcome (stepAnswer policy ways given block .outcome)
+  pub state : r .state ≡ stepAnswer policy ways given block .state
 
 pub record BlockPromise (address : Address) (lineSize : ℕ) (r : BlockAnswer) : Type 0 where
-  pub answer : r ≡ blockAnswer address lineSize
+  pub told : toldBlock r ≡ toldBlock (blockAnswer address lineSize)
 
 pub record SetPromise (block : Block) (sets : ℕ) (r : SetAnswer) : Type 0 where
-  pub answer : r ≡ setAnswer block sets
+  pub told : toldSet r ≡ toldSet (setAnswer block sets)
 
 -- `lent` and `after`: the lent bytes before and after
 pub record TracePromise (policy ways sets : ℕ) (blocks lent : List ℕ) (r : TraceAnswer) (after : List ℕ) : Type 0 where
-  pub answer : r ≡ traceRun policy ways sets blocks lent .answer
+  pub told : toldTrace r ≡ toldTrace (traceRun policy ways sets blocks lent .answer)
   pub marks : after ≡ traceRun policy ways sets blocks lent .marks
 
--- `lent` and `after`: the lent numbers before and after. Demands 1 and 2 are `answer` and `numbers`; demand 3 is `holds` and `exact`.
+-- `lent` and `after`: the lent numbers before and after. Demands 1 and 2 are `told` and `numbers`; demand 3 is `holds` and `exact`.
 pub record CheckPromise (file lent : List ℕ) (r : Verdict) (after : List ℕ) : Type 0 where
-  pub answer : r ≡ verdict file (length lent)
+  pub told : toldVerdict r ≡ toldVerdict (verdict file (length lent))
   pub numbers : after ≡ lentAfter file lent r
   pub holds : r ≡ Accepted → Holds (readCase file) after
   pub exact : EvidenceExact file

@@ -1,66 +1,56 @@
--- What each C function promises: a relation between what it is handed and what comes out, by the paper's definitions of the operation that it stands for.
--- `r` is what it returns. A number that it writes only on some answers keeps what it had (`before`) on the others.
-use Prim.Native.Nat.{ℕ}
+-- What each C function promises, by the promise of the operation that it stands for: there is an answer that the operation may give, and what the C caller gets is what that answer tells.
+-- `r` is what the function returns. A number that it writes only where nothing is refused keeps what it had (`before`) on a refusal.
+-- `refused`: what is returned for a refusal stands for nothing else.
+use Prim.Native.Nat.{ℕ, _≤_}
 use mathlib.Core.Path.{_≡_}
 use mathlib.Core.List.{List}
-use lib.ListN.{length}
-use Rattle.paper.specs.declared.Outcome.{Outcome}
-use Rattle.paper.specs.declared.Outcome.the-variants as Outcomes
+use mathlib.Core.Option.{none}
+use Rattle.paper.specs.declared.Verdict.{Verdict}
 use Rattle.paper.specs.declared.TraceAnswer.{TraceAnswer}
-use Rattle.paper.specs.declared.TraceAnswer.the-variants as TraceAnswers
 use Rattle.paper.specs.declared.StepAnswer.{StepAnswer}
 use Rattle.paper.specs.declared.BlockAnswer.{BlockAnswer}
-use Rattle.paper.specs.declared.BlockAnswer.the-variants as BlockAnswers
 use Rattle.paper.specs.declared.SetAnswer.{SetAnswer}
-use Rattle.paper.specs.declared.SetAnswer.the-variants as SetAnswers
-use Rattle.paper.specs.Answers.{ofVerdict, ofTrace, ofBlock, ofSet}
-use Rattle.paper.specs.Operations.{stepAnswer, blockAnswer, setAnswer}
-use Rattle.paper.specs.Traces.{traceRun}
-use Rattle.paper.specs.Verdicts.{verdict, lentAfter}
+use Rattle.paper.specs.Answers.{toldVerdict, toldTrace, toldOutcome, toldBlock, toldSet, valueOr}
+use Rattle.paper.specs.Files.{readCase}
+use Rattle.paper.specs.Demands.{Holds}
+use Rattle.bolgverk.specs.Promises.{StepPromise, BlockPromise, SetPromise, TracePromise, CheckPromise}
 
--- The refusal's number, or 0; its place, or 0; the lent numbers afterwards.
+-- The refusal's number, or 0; its place, or 0; the lent numbers afterwards. `holds`: demand 3's bounds, where 0 is returned; its other half is in the promise.
 pub record CheckCall (file lent : List ℕ) (r at : ℕ) (after : List ℕ) : Type 0 where
-  pub number : r ≡ ofVerdict (verdict file (length lent)) .number
-  pub place : at ≡ ofVerdict (verdict file (length lent)) .place
-  pub numbers : after ≡ lentAfter file lent (verdict file (length lent))
-
--- The misses are written where nothing is refused.
-abbrev pub missesOr : ℕ → TraceAnswer → ℕ
-missesOr before (TraceAnswers.Misses n) = n
-missesOr before (TraceAnswers.Refused r) = before
+  pub answer : Verdict
+  pub promise : CheckPromise file lent answer after
+  pub number : r ≡ toldVerdict answer .number
+  pub place : at ≡ toldVerdict answer .place
+  pub refused : toldVerdict answer .values ≡ none → 1 ≤ r
+  pub holds : r ≡ 0 → Holds (readCase file) after
 
 pub record TraceCall (policy ways sets : ℕ) (blocks lent : List ℕ) (before r counted at : ℕ) (after : List ℕ) : Type 0 where
-  pub number : r ≡ ofTrace (traceRun policy ways sets blocks lent .answer) .number
-  pub place : at ≡ ofTrace (traceRun policy ways sets blocks lent .answer) .place
-  pub misses : counted ≡ missesOr before (traceRun policy ways sets blocks lent .answer)
-  pub marks : after ≡ traceRun policy ways sets blocks lent .marks
+  pub answer : TraceAnswer
+  pub promise : TracePromise policy ways sets blocks lent answer after
+  pub number : r ≡ toldTrace answer .number
+  pub place : at ≡ toldTrace answer .place
+  pub misses : counted ≡ valueOr before (toldTrace answer)
+  pub refused : toldTrace answer .values ≡ none → 1 ≤ r
 
--- 0 for a hit, 1 for a miss, else the refusal's number: 3, 21 or 22.
-abbrev pub stepCode : Outcome → ℕ
-stepCode Outcomes.Hit = 0
-stepCode Outcomes.Miss = 1
-stepCode (Outcomes.Refused r) = r .number
-
-abbrev pub stepOf : ℕ → ℕ → List ℕ → ℕ → ℕ → StepAnswer
-stepOf policy ways lines bits block = stepAnswer policy ways (record { lines = lines; bits = bits }) (record { 0 = block })
-
+-- 0 for a hit, 1 for a miss, else the refusal's number. The state stands in `lines` and `bits`.
 pub record StepCall (policy ways : ℕ) (lent : List ℕ) (before block r : ℕ) (after : List ℕ) (now : ℕ) : Type 0 where
-  pub code : r ≡ stepCode (stepOf policy ways lent before block .outcome)
-  pub lines : after ≡ stepOf policy ways lent before block .state .lines
-  pub bits : now ≡ stepOf policy ways lent before block .state .bits
-
-abbrev pub blockOr : ℕ → BlockAnswer → ℕ
-blockOr before (BlockAnswers.Found b) = b .0
-blockOr before (BlockAnswers.Refused r) = before
+  pub answer : StepAnswer
+  pub promise : StepPromise policy ways (record { lines = lent; bits = before }) (record { 0 = block }) answer
+  pub code : r ≡ valueOr (toldOutcome (answer .outcome) .number) (toldOutcome (answer .outcome))
+  pub lines : after ≡ answer .state .lines
+  pub bits : now ≡ answer .state .bits
+  pub refused : toldOutcome (answer .outcome) .values ≡ none → 2 ≤ r
 
 pub record BlockCall (address lineSize before r after : ℕ) : Type 0 where
-  pub number : r ≡ ofBlock (blockAnswer (record { 0 = address }) lineSize) .number
-  pub block : after ≡ blockOr before (blockAnswer (record { 0 = address }) lineSize)
-
-abbrev pub setOr : ℕ → SetAnswer → ℕ
-setOr before (SetAnswers.Found s) = s .0
-setOr before (SetAnswers.Refused r) = before
+  pub answer : BlockAnswer
+  pub promise : BlockPromise (record { 0 = address }) lineSize answer
+  pub number : r ≡ toldBlock answer .number
+  pub block : after ≡ valueOr before (toldBlock answer)
+  pub refused : toldBlock answer .values ≡ none → 1 ≤ r
 
 pub record SetCall (block sets before r after : ℕ) : Type 0 where
-  pub number : r ≡ ofSet (setAnswer (record { 0 = block }) sets) .number
-  pub set : after ≡ setOr before (setAnswer (record { 0 = block }) sets)
+  pub answer : SetAnswer
+  pub promise : SetPromise (record { 0 = block }) sets answer
+  pub number : r ≡ toldSet answer .number
+  pub set : after ≡ valueOr before (toldSet answer)
+  pub refused : toldSet answer .values ≡ none → 1 ≤ r

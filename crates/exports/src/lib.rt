@@ -20,9 +20,9 @@ pub extern "C" fn bolgverk_check(file: &[u8], numbers: &mut [u64], place: &mut u
             *place = 0;
             0
         }
-        Verdict::Refused(why) => {
-            *place = why.place as u64;
-            why.number
+        Verdict::Refused(broken) => {
+            *place = broken.place as u64;
+            broken.number
         }
     }
 }

@@ -21,3 +21,5 @@ pub mod Parts
 pub mod Sections
 pub mod SameGraphs
 pub mod SameFacts
+pub mod AnswerLaws
+pub mod RefusalLaws

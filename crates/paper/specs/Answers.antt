@@ -1,5 +1,8 @@
--- "Each returns number and place and changes no lent memory." Every refusal is made by `refuse`; for each answer, the paper's number and place of its cases.
+-- "Each returns number and place and changes no lent memory." Every refusal is made by `refuse`.
+-- "When an answer is an enum, a definition gives this paper's number and values for each of its cases. The promises use that definition."
 use Prim.Native.Nat.{ℕ}
+use mathlib.Core.List.{List, [], _∷_}
+use mathlib.Core.Option.{Option, none, some}
 use Rattle.paper.specs.declared.Refusal.{Refusal}
 use Rattle.paper.specs.declared.Verdict.{Verdict}
 use Rattle.paper.specs.declared.Verdict.the-variants as Verdicts
@@ -15,27 +18,47 @@ use Rattle.paper.specs.declared.SetAnswer.the-variants as SetAnswers
 abbrev pub refuse : ℕ → ℕ → Refusal
 refuse number place = record { number = number; place = place }
 
--- An answer that is no refusal.
-abbrev pub notRefused : Refusal
-notRefused = refuse 0 0
+-- What an answer tells: the refusal's number and place, both 0 where nothing is refused, and the values, none where something is.
+pub record Told : Type 0 where
+  pub number : ℕ
+  pub place : ℕ
+  pub values : Option (List ℕ)
 
-abbrev pub ofVerdict : Verdict → Refusal
-ofVerdict Verdicts.Accepted = notRefused
-ofVerdict (Verdicts.Refused r) = r
+abbrev pub tellsWhy : Refusal → Told
+tellsWhy r = record { number = r .number; place = r .place; values = none }
 
-abbrev pub ofTrace : TraceAnswer → Refusal
-ofTrace (TraceAnswers.Misses n) = notRefused
-ofTrace (TraceAnswers.Refused r) = r
+abbrev pub tells : List ℕ → Told
+tells values = record { number = 0; place = 0; values = some values }
 
-abbrev pub ofOutcome : Outcome → Refusal
-ofOutcome Outcomes.Hit = notRefused
-ofOutcome Outcomes.Miss = notRefused
-ofOutcome (Outcomes.Refused r) = r
+-- The numbers of an accepted file are in the lent list; the verdict has none of its own.
+abbrev pub toldVerdict : Verdict → Told
+toldVerdict Verdicts.Accepted = tells []
+toldVerdict (Verdicts.Refused r) = tellsWhy r
 
-abbrev pub ofBlock : BlockAnswer → Refusal
-ofBlock (BlockAnswers.Found b) = notRefused
-ofBlock (BlockAnswers.Refused r) = r
+-- "returns the misses"
+abbrev pub toldTrace : TraceAnswer → Told
+toldTrace (TraceAnswers.Misses n) = tells (n ∷ [])
+toldTrace (TraceAnswers.Refused r) = tellsWhy r
 
-abbrev pub ofSet : SetAnswer → Refusal
-ofSet (SetAnswers.Found s) = notRefused
-ofSet (SetAnswers.Refused r) = r
+-- "1 for a miss and 0 for a hit"
+abbrev pub toldOutcome : Outcome → Told
+toldOutcome Outcomes.Hit = tells (0 ∷ [])
+toldOutcome Outcomes.Miss = tells (1 ∷ [])
+toldOutcome (Outcomes.Refused r) = tellsWhy r
+
+abbrev pub toldBlock : BlockAnswer → Told
+toldBlock (BlockAnswers.Found b) = tells (b .0 ∷ [])
+toldBlock (BlockAnswers.Refused r) = tellsWhy r
+
+abbrev pub toldSet : SetAnswer → Told
+toldSet (SetAnswers.Found s) = tells (s .0 ∷ [])
+toldSet (SetAnswers.Refused r) = tellsWhy r
+
+-- The value told, or `before` where none is: a number that is written only where nothing is refused.
+abbrev pub valueOr : ℕ → Told → ℕ
+valueOr before t = firstOr (t .values)
+  where
+    firstOr : Option (List ℕ) → ℕ
+    firstOr none = before
+    firstOr (some []) = before
+    firstOr (some (n ∷ rest)) = n

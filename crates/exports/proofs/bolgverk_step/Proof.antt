@@ -1,7 +1,7 @@
 -- `exports::bolgverk_step` hands on what `bolgverk::step` answers: the outcome as one number, the lines and the bits.
--- Assumes nothing.
 use mathlib.Core.Path.{refl}
 use borrow.Author.Needs.{needs}
+use Rattle.exports.proofs.Calling.{step-call}
 use Rattle.exports.proofs.bolgverk_step.Statement.{statement}
 use Rattle.exports.proofs.bolgverk_step.Tie as tie
 
@@ -9,19 +9,19 @@ returns : tie.Need-returns
 returns c =
     let e = c .before .before .before .before .step .ensures in
     let told = c .enum-told .given .1 in
-    record { code = rw (← e .answer, told) refl; lines = rw (← e .answer) refl; bits = rw (← e .answer) refl }
+    step-call _ _ _ _ _ _ _ _ _ e (rw told refl) refl refl
 
 returns-2 : tie.Need-returns-2
 returns-2 c =
     let e = c .before .before .before .before .step .ensures in
     let told = c .enum-told2 .given .1 in
-    record { code = rw (← e .answer, told) refl; lines = rw (← e .answer) refl; bits = rw (← e .answer) refl }
+    step-call _ _ _ _ _ _ _ _ _ e (rw told refl) refl refl
 
 returns-3 : tie.Need-returns-3
 returns-3 c =
     let e = c .before .before .before .before .before .step .ensures in
     let told = c .before .outcome .given .1 in
-    record { code = rw (← e .answer, told) refl; lines = rw (← e .answer) refl; bits = rw (← e .answer) refl }
+    step-call _ _ _ _ _ _ _ _ _ e (rw told refl) refl refl
 
 pub bolgverk-step-spec : {M : Type 1} → statement M
 bolgverk-step-spec =

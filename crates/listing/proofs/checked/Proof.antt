@@ -2,6 +2,7 @@
 use mathlib.Core.Path.{sym, _∙_}
 use borrow.Author.Needs.{needs}
 use Rattle.layout.proofs.Laws.{read-laid}
+use Rattle.bolgverk.proofs.Determined.{check-answer}
 use Rattle.listing.proofs.Texts.{printed-as, refused-text, layout-text, accepted-text}
 use Rattle.listing.proofs.checked.Statement.{statement}
 use Rattle.listing.proofs.checked.Tie as tie
@@ -16,7 +17,7 @@ returns : tie.Need-returns
 returns c =
     let r = c .before .before .before in
     let p = r .before .before .before .check .ensures in
-    printed-as (refused-text _ _ _ (p .answer) (r .r .given .1)) (c .refused .ensures)
+    printed-as (refused-text _ _ _ (check-answer _ _ _ _ p) (r .r .given .1)) (c .refused .ensures)
 
 returns-2 : tie.Need-returns-2
 returns-2 c =
@@ -29,7 +30,7 @@ returns-3 c =
     let o = t .before .before in
     let p = o .before .before .before .before .check .ensures in
     printed-as
-    (accepted-text _ _ _ _ _ (sym (o .layout-of .ensures) ∙ t .t .given .1) (p .answer) (p .numbers) (o .before .enum-told .given .1))
+    (accepted-text _ _ _ _ _ (sym (o .layout-of .ensures) ∙ t .t .given .1) (check-answer _ _ _ _ p) (p .numbers) (o .before .enum-told .given .1))
     (c .accepted .ensures)
 
 pub checked-spec : {M : Type 1} → statement M

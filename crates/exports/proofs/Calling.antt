@@ -1,0 +1,74 @@
+-- A C function that hands on what an answer tells keeps its promise: no refusal's number stands for anything else, and 0 is returned only for an accepted file.
+use Prim.Native.Nat.{ℕ, _≤_}
+use native.Mathlib.Omega.{arith}
+use mathlib.Core.Path.{_≡_, refl, sym, ap, subst}
+use mathlib.Core.List.{List}
+use mathlib.Core.Option.{none}
+use lib.ListN.{length}
+use Rattle.paper.specs.declared.Verdict.{Verdict}
+use Rattle.paper.specs.declared.Verdict.the-variants.{Accepted, Refused}
+use Rattle.paper.specs.declared.TraceAnswer.{TraceAnswer}
+use Rattle.paper.specs.declared.StepAnswer.{StepAnswer}
+use Rattle.paper.specs.declared.BlockAnswer.{BlockAnswer}
+use Rattle.paper.specs.declared.SetAnswer.{SetAnswer}
+use Rattle.paper.specs.Answers.{Told, toldVerdict, toldTrace, toldOutcome, toldBlock, toldSet, valueOr}
+use Rattle.paper.proofs.RefusalLaws.{verdict-numbered, trace-numbered, step-numbered, block-numbered, set-numbered}
+use Rattle.bolgverk.specs.Promises.{StepPromise, BlockPromise, SetPromise, TracePromise, CheckPromise}
+use Rattle.exports.specs.Calls.{CheckCall, TraceCall, StepCall, BlockCall, SetCall}
+
+-- an answer that tells what the paper's does
+refused-as : (low : ℕ) (t t′ : Told) → t ≡ t′ → (t′ .values ≡ none → low ≤ t′ .number) → t .values ≡ none → low ≤ t .number
+refused-as low t t′ e n = subst (λ (u : Told). u .values ≡ none → low ≤ u .number) (sym e) n
+
+number-as : (low r : ℕ) (n : ℕ) → r ≡ n → low ≤ n → low ≤ r
+number-as low r n e h = omega arith
+
+module _ (file lent : List ℕ) (r at : ℕ) (after : List ℕ) where
+  accepted : (v : Verdict) → (toldVerdict v .values ≡ none → 1 ≤ toldVerdict v .number) → toldVerdict v .number ≡ 0 → v ≡ Accepted
+  accepted Accepted n e = refl
+  accepted (Refused why) n e =
+      let l = n refl in
+      absurd (omega arith)
+
+  pub check-call : (v : Verdict) → CheckPromise file lent v after → r ≡ toldVerdict v .number → at ≡ toldVerdict v .place → CheckCall file lent r at after
+  check-call v p n a =
+      let k = refused-as 1 _ _ (p .told) (verdict-numbered file (length lent) .refused) in
+      record {
+        answer = v;
+        promise = p;
+        number = n;
+        place = a;
+        refused = λ h. number-as 1 r _ n (k h);
+        holds = λ z. p .holds (accepted v k (omega arith));
+      }
+
+module _ (policy ways sets : ℕ) (blocks lent : List ℕ) (before r counted at : ℕ) (after : List ℕ) where
+  pub trace-call : (v : TraceAnswer) → TracePromise policy ways sets blocks lent v after → r ≡ toldTrace v .number → at ≡ toldTrace v .place →
+      counted ≡ valueOr before (toldTrace v) → TraceCall policy ways sets blocks lent before r counted at after
+  trace-call v p n a m =
+      let k = refused-as 1 _ _ (p .told) (trace-numbered policy ways sets blocks lent .refused) in
+      record { answer = v; promise = p; number = n; place = a; misses = m; refused = λ h. number-as 1 r _ n (k h) }
+
+module _ (policy ways : ℕ) (lent : List ℕ) (before block r : ℕ) (after : List ℕ) (now : ℕ) where
+  code-refused : (t : Told) → (t .values ≡ none → 2 ≤ t .number) → t .values ≡ none → 2 ≤ valueOr (t .number) t
+  code-refused t n h = rw h (n h)
+
+  pub step-call : (v : StepAnswer) → StepPromise policy ways (record { lines = lent; bits = before }) (record { 0 = block }) v →
+      r ≡ valueOr (toldOutcome (v .outcome) .number) (toldOutcome (v .outcome)) → after ≡ v .state .lines → now ≡ v .state .bits → StepCall policy ways lent before block r after now
+  step-call v p n l b =
+      let k = refused-as 2 _ _ (p .told) (step-numbered policy ways (record { lines = lent; bits = before }) (record { 0 = block }) .refused) in
+      record { answer = v; promise = p; code = n; lines = l; bits = b; refused = λ h. number-as 2 r _ n (code-refused (toldOutcome (v .outcome)) k h) }
+
+module _ (address lineSize before r after : ℕ) where
+  pub block-call : (v : BlockAnswer) → BlockPromise (record { 0 = address }) lineSize v → r ≡ toldBlock v .number → after ≡ valueOr before (toldBlock v) →
+      BlockCall address lineSize before r after
+  block-call v p n b =
+      let k = refused-as 1 _ _ (p .told) (block-numbered (record { 0 = address }) lineSize .refused) in
+      record { answer = v; promise = p; number = n; block = b; refused = λ h. number-as 1 r _ n (k h) }
+
+module _ (block sets before r after : ℕ) where
+  pub set-call : (v : SetAnswer) → SetPromise (record { 0 = block }) sets v → r ≡ toldSet v .number → after ≡ valueOr before (toldSet v) →
+      SetCall block sets before r after
+  set-call v p n s =
+      let k = refused-as 1 _ _ (p .told) (set-numbered (record { 0 = block }) sets .refused) in
+      record { answer = v; promise = p; number = n; set = s; refused = λ h. number-as 1 r _ n (k h) }

@@ -1,0 +1,55 @@
+-- Two outcomes that a C function's promise allows coincide: what it returns, and every number that it was handed to write.
+use Prim.Native.Nat.{ℕ}
+use mathlib.Core.Path.{_≡_, sym, _∙_, ap}
+use mathlib.Core.List.{List}
+use Rattle.paper.specs.declared.Verdict.{Verdict}
+use Rattle.paper.specs.declared.TraceAnswer.{TraceAnswer}
+use Rattle.paper.specs.declared.StepAnswer.{StepAnswer}
+use Rattle.paper.specs.declared.BlockAnswer.{BlockAnswer}
+use Rattle.paper.specs.declared.SetAnswer.{SetAnswer}
+use Rattle.paper.specs.Answers.{toldVerdict, toldTrace, toldOutcome, toldBlock, toldSet, valueOr}
+use Rattle.bolgverk.proofs.Determined.{step-determined, block-determined, set-determined, trace-determined, check-determined}
+use Rattle.exports.specs.Calls.{CheckCall, TraceCall, StepCall, BlockCall, SetCall}
+
+-- two results that are the same function of answers that are the same
+same : {A B : Type 0} (f : A → B) {v v′ : A} {x x′ : B} → v ≡ v′ → x ≡ f v → x′ ≡ f v′ → x ≡ x′
+same f e p q = p ∙ ap f e ∙ sym q
+
+module _ (file lent : List ℕ) (r r′ at at′ : ℕ) (after after′ : List ℕ) where
+  pub check-call-determined : CheckCall file lent r at after → CheckCall file lent r′ at′ after′ → (r ≡ r′) × (at ≡ at′) × (after ≡ after′)
+  check-call-determined p q =
+      let e = check-determined file lent _ _ _ _ (p .promise) (q .promise) in
+      (same (λ (v : Verdict). toldVerdict v .number) (e .0) (p .number) (q .number), same (λ (v : Verdict). toldVerdict v .place) (e .0) (p .place) (q .place), e .1)
+
+module _ (policy ways sets : ℕ) (blocks lent : List ℕ) (before r r′ counted counted′ at at′ : ℕ) (after after′ : List ℕ) where
+  pub trace-call-determined : TraceCall policy ways sets blocks lent before r counted at after → TraceCall policy ways sets blocks lent before r′ counted′ at′ after′ →
+      (r ≡ r′) × (counted ≡ counted′) × (at ≡ at′) × (after ≡ after′)
+  trace-call-determined p q =
+      let e = trace-determined policy ways sets blocks lent _ _ _ _ (p .promise) (q .promise) in (
+        same (λ (v : TraceAnswer). toldTrace v .number) (e .0) (p .number) (q .number),
+        same (λ (v : TraceAnswer). valueOr before (toldTrace v)) (e .0) (p .misses) (q .misses),
+        same (λ (v : TraceAnswer). toldTrace v .place) (e .0) (p .place) (q .place),
+        e .1,
+      )
+
+module _ (policy ways : ℕ) (lent : List ℕ) (before block r r′ : ℕ) (after after′ : List ℕ) (now now′ : ℕ) where
+  pub step-call-determined : StepCall policy ways lent before block r after now → StepCall policy ways lent before block r′ after′ now′ →
+      (r ≡ r′) × (after ≡ after′) × (now ≡ now′)
+  step-call-determined p q =
+      let e = step-determined policy ways _ _ _ _ (p .promise) (q .promise) in (
+        same (λ (v : StepAnswer). valueOr (toldOutcome (v .outcome) .number) (toldOutcome (v .outcome))) e (p .code) (q .code),
+        same (λ (v : StepAnswer). v .state .lines) e (p .lines) (q .lines),
+        same (λ (v : StepAnswer). v .state .bits) e (p .bits) (q .bits),
+      )
+
+module _ (address lineSize before r r′ after after′ : ℕ) where
+  pub block-call-determined : BlockCall address lineSize before r after → BlockCall address lineSize before r′ after′ → (r ≡ r′) × (after ≡ after′)
+  block-call-determined p q =
+      let e = block-determined _ lineSize _ _ (p .promise) (q .promise) in
+      (same (λ (v : BlockAnswer). toldBlock v .number) e (p .number) (q .number), same (λ (v : BlockAnswer). valueOr before (toldBlock v)) e (p .block) (q .block))
+
+module _ (block sets before r r′ after after′ : ℕ) where
+  pub set-call-determined : SetCall block sets before r after → SetCall block sets before r′ after′ → (r ≡ r′) × (after ≡ after′)
+  set-call-determined p q =
+      let e = set-determined _ sets _ _ (p .promise) (q .promise) in
+      (same (λ (v : SetAnswer). toldSet v .number) e (p .number) (q .number), same (λ (v : SetAnswer). valueOr before (toldSet v)) e (p .set) (q .set))

@@ -1,0 +1,77 @@
+-- What an answer tells determines the answer.
+use Prim.Native.Nat.{ℕ, zero, suc}
+use mathlib.Core.Path.{_≡_, refl, sym, _∙_, ap}
+use mathlib.Core.List.{List, [], _∷_}
+use mathlib.Core.Option.{Option, none, some}
+use Rattle.paper.specs.declared.Refusal.{Refusal}
+use Rattle.paper.specs.declared.Verdict.{Verdict}
+use Rattle.paper.specs.declared.Verdict.the-variants as Verdicts
+use Rattle.paper.specs.declared.TraceAnswer.{TraceAnswer}
+use Rattle.paper.specs.declared.TraceAnswer.the-variants as TraceAnswers
+use Rattle.paper.specs.declared.Outcome.{Outcome}
+use Rattle.paper.specs.declared.Outcome.the-variants as Outcomes
+use Rattle.paper.specs.declared.BlockAnswer.{BlockAnswer}
+use Rattle.paper.specs.declared.BlockAnswer.the-variants as BlockAnswers
+use Rattle.paper.specs.declared.SetAnswer.{SetAnswer}
+use Rattle.paper.specs.declared.SetAnswer.the-variants as SetAnswers
+use Rattle.paper.specs.Answers.{refuse, Told, toldVerdict, toldTrace, toldOutcome, toldBlock, toldSet}
+
+-- The way back from what is told: a refusal, no value, a value.
+module _ {A : Type 0} (refused : Refusal → A) (plain : A) (valued : ℕ → A) where
+  abbrev from : Refusal → Option (List ℕ) → A
+  from r none = refused r
+  from r (some []) = plain
+  from r (some (n ∷ rest)) = valued n
+
+  abbrev answer : Told → A
+  answer t = from (refuse (t .number) (t .place)) (t .values)
+
+  -- answers that tell the same are the same, since each is got back
+  same : (told : A → Told) → ((r : A) → answer (told r) ≡ r) → (r r′ : A) → told r ≡ told r′ → r ≡ r′
+  same told back r r′ e = sym (back r) ∙ ap answer e ∙ back r′
+
+verdict-back : (v : Verdict) → answer Verdicts.Refused Verdicts.Accepted (λ n. Verdicts.Accepted) (toldVerdict v) ≡ v
+verdict-back Verdicts.Accepted = refl
+verdict-back (Verdicts.Refused r) = refl
+
+trace-back : (v : TraceAnswer) → answer TraceAnswers.Refused (TraceAnswers.Misses 0) TraceAnswers.Misses (toldTrace v) ≡ v
+trace-back (TraceAnswers.Misses n) = refl
+trace-back (TraceAnswers.Refused r) = refl
+
+abbrev outcome : ℕ → Outcome
+outcome zero = Outcomes.Hit
+outcome (suc n) = Outcomes.Miss
+
+outcome-back : (v : Outcome) → answer Outcomes.Refused Outcomes.Hit outcome (toldOutcome v) ≡ v
+outcome-back Outcomes.Hit = refl
+outcome-back Outcomes.Miss = refl
+outcome-back (Outcomes.Refused r) = refl
+
+abbrev block : ℕ → BlockAnswer
+block n = BlockAnswers.Found (record { 0 = n })
+
+block-back : (v : BlockAnswer) → answer BlockAnswers.Refused (block 0) block (toldBlock v) ≡ v
+block-back (BlockAnswers.Found b) = refl
+block-back (BlockAnswers.Refused r) = refl
+
+abbrev set : ℕ → SetAnswer
+set n = SetAnswers.Found (record { 0 = n })
+
+set-back : (v : SetAnswer) → answer SetAnswers.Refused (set 0) set (toldSet v) ≡ v
+set-back (SetAnswers.Found s) = refl
+set-back (SetAnswers.Refused r) = refl
+
+pub same-verdict : (v v′ : Verdict) → toldVerdict v ≡ toldVerdict v′ → v ≡ v′
+same-verdict = same _ _ _ toldVerdict verdict-back
+
+pub same-trace : (v v′ : TraceAnswer) → toldTrace v ≡ toldTrace v′ → v ≡ v′
+same-trace = same _ _ _ toldTrace trace-back
+
+pub same-outcome : (v v′ : Outcome) → toldOutcome v ≡ toldOutcome v′ → v ≡ v′
+same-outcome = same _ _ _ toldOutcome outcome-back
+
+pub same-block : (v v′ : BlockAnswer) → toldBlock v ≡ toldBlock v′ → v ≡ v′
+same-block = same _ _ _ toldBlock block-back
+
+pub same-set : (v v′ : SetAnswer) → toldSet v ≡ toldSet v′ → v ≡ v′
+same-set = same _ _ _ toldSet set-back
