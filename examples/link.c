@@ -2,12 +2,15 @@
 #include <bolgverk.h>
 #include <stdio.h>
 
-static uint8_t file[65536];
+/* One byte more than a file may have: it shows that the input is longer. */
+static uint8_t file[65537];
 
 int main(void)
 {
     uint64_t numbers[BOLGVERK_NUMBERS] = {0}, place;
     size_t length = fread(file, 1, sizeof file, stdin);
+    if (length > 65536)
+        return printf("refused 28 0\n") < 0;
     uint8_t refused = bolgverk_check(file, length, numbers, BOLGVERK_NUMBERS, &place);
     if (refused)
         return printf("refused %u %lu\n", refused, place) < 0;
