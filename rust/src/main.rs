@@ -3,7 +3,7 @@
 mod options;
 
 use options::{Options, USAGE};
-use second::compare::{caches, evidence, files, frames, walks};
+use second::compare::{bounds, caches, evidence, files, frames, walks};
 use second::must_break;
 use std::process::ExitCode;
 use std::time::Instant;
@@ -14,7 +14,7 @@ fn main() -> ExitCode {
         Ok(_) => return usage("no part is named"),
         Err(fault) => return usage(&fault),
     };
-    let all = ["caches", "frames", "files", "evidence", "walks", "must-break"];
+    let all = ["caches", "frames", "files", "bounds", "evidence", "walks", "must-break"];
     let named = options.parts.iter().map(String::as_str);
     let parts: Vec<&str> = named.flat_map(|part| if part == "all" { all.to_vec() } else { vec![part] }).collect();
     for part in parts {
@@ -40,10 +40,12 @@ enum Failure {
 fn run(part: &str, options: &Options) -> Result<(), Failure> {
     let settings = &options.settings;
     let pipe = || options.pipe.as_ref().ok_or(Failure::Usage(format!("{part} needs to know how to start pipe")));
+    let program = || options.bounds.as_ref().ok_or(Failure::Usage(format!("{part} needs to know how to start bounds")));
     let result = match part {
         "caches" => caches::run(pipe()?, settings),
         "frames" => frames::run(pipe()?, settings),
         "files" => files::run(pipe()?, settings),
+        "bounds" => bounds::run(program()?, settings),
         "evidence" => evidence::run(pipe()?, settings),
         "walks" => walks::run(pipe()?, settings),
         "must-break" => must_break::run(options.pipe.as_ref()),

@@ -6,12 +6,13 @@ use second::pipe::Pipe;
 pub const USAGE: &str = "\
 usage: compare [OPTION..] PART.. [-- PROGRAM [ARGUMENT..]]
 
-Compares the proved operations, over `pipe`, with the second simulator. Ends with 0 if all agree, with 1 at the first difference.
+Compares the proved operations, over `pipe`, and the program `bounds` with the second simulator. Ends with 0 if all agree, with 1 at the first difference.
 
 parts:
   caches      trace runs, single steps, addresses, set numbers
   frames      frames that cannot be answered
   files       case files, sound and damaged: verdicts, places and bounds
+  bounds      what the program `bounds` prints for case files, sound, damaged and too long
   evidence    evidence exists exactly when it should
   walks       no walk through an accepted file misses more than its bounds say
   must-break  wrong bounds, each with a file, a walk and a content that exceed it (`pipe` may be left out)
@@ -20,10 +21,12 @@ parts:
 
 options:
   --pipe 'PROGRAM ARGUMENT..'  how to start `pipe`; or give it behind --
+  --bounds 'PROGRAM ARGUMENT..'  how to start `bounds`
   --seed N      (1)
   --accesses N  accesses for each policy, number of ways and of sets (200000)
   --steps N     single steps for each policy and number of ways (10000)
   --files N     case files (20000)
+  --printed N   case files that `bounds` is started on (2000)
   --graphs N    small graphs whose evidence is tried (600)
   --walked N    small files that are walked through, or searched (10000)
 ";
@@ -31,22 +34,36 @@ options:
 pub struct Options {
     pub settings: Settings,
     pub pipe: Option<Pipe>,
+    pub bounds: Option<Pipe>,
     pub parts: Vec<String>,
 }
 
 pub fn read(arguments: impl Iterator<Item = String>) -> Result<Options, String> {
-    let settings = Settings { seed: 1, accesses: 200_000, steps: 10_000, files: 20_000, graphs: 600, walked: 10_000 };
-    let mut options = Options { settings, pipe: None, parts: Vec::new() };
+    let settings = Settings {
+        seed: 1,
+        accesses: 200_000,
+        steps: 10_000,
+        files: 20_000,
+        printed: 2_000,
+        graphs: 600,
+        walked: 10_000,
+    };
+    let mut options = Options { settings, pipe: None, bounds: None, parts: Vec::new() };
     let mut rest = arguments;
     while let Some(word) = rest.next() {
         match word.as_str() {
             "--" => options.pipe = start(rest.by_ref().collect()),
-            "--pipe" => options.pipe = start(value(&mut rest, &word)?.split_whitespace().map(str::to_string).collect()),
+            "--pipe" => options.pipe = start(words(&value(&mut rest, &word)?)),
+            "--bounds" => options.bounds = start(words(&value(&mut rest, &word)?)),
             _ if word.starts_with("--") => options.set(&word, &value(&mut rest, &word)?)?,
             _ => options.parts.push(word),
         }
     }
     Ok(options)
+}
+
+fn words(command: &str) -> Vec<String> {
+    command.split_whitespace().map(str::to_string).collect()
 }
 
 fn start(words: Vec<String>) -> Option<Pipe> {
@@ -65,6 +82,7 @@ impl Options {
             "--accesses" => self.settings.accesses = number,
             "--steps" => self.settings.steps = number,
             "--files" => self.settings.files = number,
+            "--printed" => self.settings.printed = number,
             "--graphs" => self.settings.graphs = number,
             "--walked" => self.settings.walked = number,
             _ => return Err(format!("no option {option}")),

@@ -1,6 +1,7 @@
 //! The comparisons: the same requests to `pipe` and to the second simulator, until an answer differs.
 
 pub mod borders;
+pub mod bounds;
 pub mod caches;
 pub mod evidence;
 pub mod files;
@@ -26,6 +27,8 @@ pub struct Settings {
     pub steps: usize,
     /// Case files.
     pub files: usize,
+    /// Case files that `bounds` is started on.
+    pub printed: usize,
     /// Small graphs whose evidence is tried.
     pub graphs: usize,
     /// Small files that are walked through.

@@ -1,0 +1,141 @@
+//! The program `bounds` itself, started anew for each file: what it prints, byte for byte.
+
+use super::Settings;
+use crate::case::{Draft, FactRecord, Lists, LoopRecord, Paper, Row, LARGEST};
+use crate::generate::cases::{sound, Plan};
+use crate::generate::damage::{damage, scatter};
+use crate::listing::{listing, LONGEST_INPUT};
+use crate::machine::Shape;
+// A child process that is handed its input and read to its end: what talks to `pipe` starts `bounds` as well.
+use crate::pipe::Pipe as Program;
+use crate::random::Random;
+use crate::show;
+use std::collections::{BTreeMap, BTreeSet};
+
+/// How often each kind of text must be seen.
+const AT_LEAST: u64 = 10;
+
+#[derive(Default)]
+struct Seen {
+    /// By the text's first words: `total`, or `refused` with its number.
+    texts: BTreeMap<String, u64>,
+    /// Listings with facts in several sets, and with all 64 sets.
+    spread: u64,
+    widest: u64,
+    lines: usize,
+}
+
+pub fn run(bounds: &Program, settings: &Settings) -> Result<(), String> {
+    let mut random = Random::for_part(settings.seed, "bounds");
+    let mut seen = Seen::default();
+    for file in at_the_limits() {
+        compare(bounds, &file, &mut seen)?;
+    }
+    for i in 0..settings.printed {
+        let file = match i % 10 {
+            0..=4 => sound_file(&mut random, &mut seen),
+            5 => scattered_file(&mut random),
+            // Every rule that a file can break: 20 is about the lent list.
+            _ => damaged_file(&mut random, 1 + (i / 10 * 4 + i % 10 - 6) as u8 % 19),
+        };
+        compare(bounds, &file, &mut seen)?;
+    }
+    seen.report(settings.printed);
+    seen.demand()
+}
+
+/// Starts the program on the file, and holds what it prints to the second simulator's listing.
+fn compare(bounds: &Program, file: &[u8], seen: &mut Seen) -> Result<(), String> {
+    let own = listing(file);
+    let said = bounds.converse(file.to_vec())?;
+    if said.bytes != own.as_bytes() || !said.status.success() {
+        let printed = String::from_utf8_lossy(&said.bytes);
+        let texts =
+            format!("the second simulator has\n{own}bounds, which ended with {}, printed\n{printed}", said.status);
+        return Err(format!("{}{texts}", show::file(file)));
+    }
+    let words: Vec<&str> = own.split_whitespace().collect();
+    let kind = if words[0] == "refused" { words[..2].join(" ") } else { words[0].to_string() };
+    *seen.texts.entry(kind).or_default() += 1;
+    seen.lines = seen.lines.max(own.lines().count());
+    Ok(())
+}
+
+/// A file with several sets more often than not, and with facts about blocks of several of them.
+fn sound_file(random: &mut Random, seen: &mut Seen) -> Vec<u8> {
+    let (policy, ways) = random.pick(&Shape::all_numbers());
+    let any = random.within(1..=64) as u8;
+    let sets = random.pick(&[1, 2, 3, 4, 8, 63, 64, any, any, any]);
+    let (blocks, rows) = (random.within(1..=40), random.pick(&[20, 120, 600]));
+    let plan = Plan { blocks, rows, machine: Some((policy, ways, sets)), ..Plan::any(random) };
+    let draft = sound(random, &plan, &Paper);
+    let held: BTreeSet<u16> = draft.facts.iter().map(|fact| fact.block % u16::from(sets)).collect();
+    seen.spread += u64::from(held.len() > 1);
+    seen.widest += u64::from(sets == 64);
+    draft.write()
+}
+
+fn scattered_file(random: &mut Random) -> Vec<u8> {
+    let plan = Plan::any(random);
+    let mut file = sound(random, &plan, &Paper).write();
+    scatter(random, &mut file);
+    file
+}
+
+/// One fault, so that each rule comes up as often as the others.
+fn damaged_file(random: &mut Random, rule: u8) -> Vec<u8> {
+    let plan = Plan::roomy(random);
+    let draft = sound(random, &plan, &Paper);
+    damage(random, &draft, &[rule]).0
+}
+
+/// The longest listing: 64 sets, and 256 facts, four in each of 64 loops. Without edges no row has to carry a block.
+fn longest_listing(policy: u8) -> Vec<u8> {
+    let lists = Lists {
+        nodes: (0..256).collect(),
+        edges: Vec::new(),
+        loops: (0..64).map(|i| LoopRecord { first: 4 * i, last: 4 * i + 3, bound: 1_000_000 - u32::from(i) }).collect(),
+    };
+    let fact = |block| FactRecord { scope: block / 4, block, limit: 2, rows: vec![Row::NotSince.record(); 4] };
+    Draft { policy, ways: 8, sets: 64, lists, facts: (0..256).map(fact).collect() }.write()
+}
+
+/// The shortest and the longest inputs: "more than 65,536 bytes" is longer than the program reads.
+fn at_the_limits() -> Vec<Vec<u8>> {
+    let lists = Lists { nodes: (0..LARGEST[0]).collect(), ..Lists::default() };
+    let whole = Draft { policy: 0, ways: 1, sets: 64, lists, facts: Vec::new() }.write();
+    let padded = |length: usize| {
+        let front = vec![0; length - whole.len()];
+        [front, whole.clone()].concat()
+    };
+    let lengths = [LONGEST_INPUT - 1, LONGEST_INPUT, LONGEST_INPUT + 1, LONGEST_INPUT + 4_096, 3 * LONGEST_INPUT];
+    let mut files = vec![Vec::new(), vec![0], whole.clone()];
+    files.extend((0..3).map(longest_listing));
+    files.extend(lengths.map(padded));
+    files.extend((0..AT_LEAST as usize).map(|more| padded(LONGEST_INPUT + 1 + more)));
+    files
+}
+
+impl Seen {
+    fn report(&self, files: usize) {
+        println!("what bounds printed for {files} files and some at the limits:");
+        for (text, count) in &self.texts {
+            println!("  {text:<10} {count:>6}");
+        }
+        println!("  files with facts in several sets: {}, with 64 sets: {}", self.spread, self.widest);
+        println!("  lines of the longest listing: {}", self.lines);
+    }
+
+    fn demand(&self) -> Result<(), String> {
+        let kinds = (1..=19).chain([28]).map(|number| format!("refused {number}"));
+        for kind in kinds.chain(["total".to_string()]) {
+            if self.texts.get(&kind).is_none_or(|&count| count < AT_LEAST) {
+                return Err(format!("`{kind}` was printed too seldom"));
+            }
+        }
+        if self.spread < AT_LEAST || self.widest < AT_LEAST {
+            return Err("too few files had facts in several sets, or 64 sets".to_string());
+        }
+        Ok(())
+    }
+}

@@ -1,0 +1,25 @@
+//! "A file and its listing": what the program `bounds` prints.
+
+use crate::case::{judge, Bounds, Paper};
+use crate::refusal::{demand, Refusal};
+
+/// "the program reads at most 65,536 bytes and prints `refused 28 0` for longer input."
+pub const LONGEST_INPUT: usize = 65_536;
+
+/// "Each line: word, number of the set or fact, bound. Every set up to S is listed. A refusal prints `refused`, number,
+/// place."
+pub fn listing(input: &[u8]) -> String {
+    match bounds(input) {
+        Ok(Bounds { total, sets, facts }) => format!("total {total}\n{}{}", lines("set", &sets), lines("fact", &facts)),
+        Err(Refusal { number, place }) => format!("refused {number} {place}\n"),
+    }
+}
+
+fn bounds(input: &[u8]) -> Result<Bounds, Refusal> {
+    demand(28, input.len() <= LONGEST_INPUT)?;
+    Ok(judge(input, &Paper)?.bounds)
+}
+
+fn lines(word: &str, bounds: &[u128]) -> String {
+    bounds.iter().enumerate().map(|(number, bound)| format!("{word} {number} {bound}\n")).collect()
+}
