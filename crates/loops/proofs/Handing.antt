@@ -8,7 +8,6 @@ use lib.ListN.{length, getD, set, length-set}
 use lib.Seq.{getD-set-same, getD-set-other}
 use Rattle.paper.specs.declared.Loop.{Loop}
 use Rattle.paper.specs.declared.Trailer.{Trailer}
-use Rattle.paper.specs.Graphs.{count}
 use Rattle.paper.specs.Files.{loopAt, caseOf}
 use Rattle.loops.specs.Counts.{noLoop, countTo, countIn}
 use Rattle.loops.specs.Handed.{Handed}
@@ -51,7 +50,3 @@ module _ (f : List ℕ) (t : Trailer) where
         → countIn loops (suc j) (getD loops j noLoop .first) ≡ countTo (caseOf f t) (caseOf f t .loop j .first) (suc j)
     unfolding caseOf
     handed-header j q = rw (w .at j q) (handed-count (loopAt f t j .first) (suc j) q)
-
-    pub handed-all : (v : ℕ) → countIn loops (t .loops) v ≡ count (caseOf f t) v
-    unfolding countTo count caseOf
-    handed-all v = handed-count v (t .loops) (omega arith)

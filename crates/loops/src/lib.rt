@@ -1,9 +1,7 @@
-// "The loops are handed on as a list of records": they are read from the file once, and lent to the function that counts.
+// "The loops are handed on as a list of records": they are read from the file into an array, anew for each of rules 8 to 10, and lent to the function that counts.
 ghost use mathlib.Core.Path.{_≡_};
 ghost use Prim.Native.Nat.{_*_, suc, _<_, _≤_};
 ghost use lib.ListN.{length, getD};
-ghost use Rattle.paper.specs.Files.{caseOf};
-ghost use Rattle.paper.specs.Graphs as Graphs;
 ghost use Rattle.layout.specs.Laid.{Laid};
 ghost use Rattle.loops.specs.Counts.{shown, factor, noLoop, countIn};
 ghost use Rattle.loops.specs.Handed.{Handed};
@@ -70,12 +68,4 @@ pub fn header_count(loops: [Loop; 64], j: u16) -> u32
 {
     let at = j as usize;
     count_in(loops, at + 1, loops[at].first)
-}
-
-// A node's count, from the file.
-pub fn count_of(file: &[u8], t: Trailer, node: u16) -> u32
-    requires { ⌜ Laid (now file) t ⌝ }
-    ensures { λ r. ⌜ r ≡ shown (Graphs.count (caseOf (now (file .entry)) t) node) ⌝ }
-{
-    count_in(loops_of(file, t), t.loops as usize, node)
 }
