@@ -1,4 +1,4 @@
--- The numbers of a file's facts and nodes are small, and so are their sums. Assumes nothing.
+-- The numbers of a file's facts and nodes are small, and so are their sums.
 use Prim.Native.Nat.{ℕ, _+_, _-_, _%_, _≤_, _<_}
 use native.Mathlib.Omega.{arith}
 use native.Mathlib.Nat.{div-le-self, mod-lt}
@@ -12,7 +12,7 @@ use Rattle.paper.specs.Graphs.{count, entries}
 use Rattle.paper.specs.Bounds.{g, boundOf, covers, counts, factBound}
 use Rattle.paper.specs.Files.{nodeAt, caseOf}
 use Rattle.paper.proofs.Meaning.{SoundHead, Sound}
-use Rattle.layout.specs.Laid.{Laid}
+use Rattle.paper.specs.Known.{Laid}
 use Rattle.charge.specs.Tables.{entriesIn, weight, FactsAdded, NodesAdded}
 use Rattle.charge.proofs.Entries.{entries-low}
 use Rattle.charge.proofs.Sums.{sum-low, cond-low}

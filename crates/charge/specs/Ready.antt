@@ -1,10 +1,10 @@
--- What the charge asks of a file: it is laid out, sound, and its counts are there. Assumes nothing.
+-- What the charge asks of a file: it is laid out, sound, and its counts are there.
 use Prim.Native.Nat.{ℕ}
 use mathlib.Core.List.{List}
 use Rattle.paper.specs.declared.Trailer.{Trailer}
 use Rattle.paper.specs.Files.{caseOf}
 use Rattle.paper.proofs.Meaning.{Sound}
-use Rattle.layout.specs.Laid.{Laid}
+use Rattle.paper.specs.Known.{Laid}
 use Rattle.layout.specs.Counted.{Counted}
 use Rattle.charge.specs.Placed.{Placed}
 

@@ -1,10 +1,10 @@
--- What the sets' bounds are made of: the file is laid out and sound, and the tables hold the sums of all its facts and nodes. Assumes nothing.
+-- What the sets' bounds are made of: the file is laid out and sound, and the tables hold the sums of all its facts and nodes.
 use Prim.Native.Nat.{ℕ}
 use mathlib.Core.List.{List}
 use Rattle.paper.specs.declared.Trailer.{Trailer}
 use Rattle.paper.specs.Files.{caseOf}
 use Rattle.paper.proofs.Meaning.{Sound}
-use Rattle.layout.specs.Laid.{Laid}
+use Rattle.paper.specs.Known.{Laid}
 use Rattle.charge.specs.Tables.{FactsAdded, NodesAdded}
 
 pub record Summed (f : List ℕ) (t : Trailer) (charged entered fetched spent : List ℕ) : Type 0 where

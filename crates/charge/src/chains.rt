@@ -4,7 +4,7 @@ ghost use mathlib.Core.Bool.{cond, _&&_};
 ghost use Prim.Native.Nat.{_<_, _≤_, min};
 ghost use lib.Dec.{eqb, leb};
 ghost use Rattle.paper.specs.Files as Files;
-ghost use Rattle.layout.specs.Laid.{Laid};
+ghost use Rattle.paper.specs.Known.{Laid};
 ghost use Rattle.charge.specs.Ready.{Ready};
 ghost use Rattle.charge.specs.Tables as Tables;
 use crate::amounts;

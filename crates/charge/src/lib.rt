@@ -6,7 +6,7 @@ ghost use lib.ListN.{length, drop};
 ghost use Rattle.paper.specs.Bounds as Bounds;
 ghost use Rattle.paper.specs.Files as Files;
 ghost use Rattle.paper.proofs.Meaning.{Sound};
-ghost use Rattle.layout.specs.Laid.{Laid};
+ghost use Rattle.paper.specs.Known.{Laid};
 ghost use Rattle.layout.specs.Counted.{Counted};
 ghost use Rattle.charge.specs.Placed.{Placed};
 ghost use Rattle.charge.specs.Tables as Tables;

@@ -1,4 +1,4 @@
-pub mod Known
-pub mod Late
-pub mod Early
+pub mod Told
+pub mod Heads
+pub mod Bodies
 pub mod Walk

@@ -1,53 +1,84 @@
--- The loop over the facts, and the verdict that it comes to. Assumes nothing.
-use Prim.Native.Nat.{ℕ, _+_, _≤_, _<_}
+-- The loop over the facts, and the verdict that it comes to.
+use Prim.Native.Nat.{ℕ, suc, _+_, _-_, _≤_, _<_}
 use native.Mathlib.Omega.{arith}
+use native.Mathlib.Numerals.{add-one}
 use mathlib.Core.Path.{_≡_, refl, sym, _∙_, ap}
-use mathlib.Core.Logic.{_≢_}
-use mathlib.Core.Bool.{true, false}
 use mathlib.Core.List.{List}
-use borrow.Author.Tests.{lt-ltb, le-ltb, eq-eqb, ne-eqb}
+use lib.Dec.{ltb}
+use borrow.Author.Tests.{lt-ltb, le-ltb}
+use Rattle.paper.specs.declared.Refusal.{Refusal}
 use Rattle.paper.specs.declared.Trailer.{Trailer}
+use Rattle.paper.specs.declared.Previous.{Previous}
+use Rattle.paper.specs.declared.Verdict.{Verdict}
 use Rattle.paper.specs.declared.Verdict.the-variants.{Accepted, Refused}
 use Rattle.paper.specs.Answers.{refuse}
-use Rattle.paper.specs.Lists.{least, some}
-use Rattle.paper.specs.Files.{endAt, factsAt, factPlace}
-use Rattle.paper.specs.Verdicts.{factRule, badFact, factRules}
-use Rattle.paper.proofs.Least.{Passed, passed-more, least-found, some-found, some-none}
-use Rattle.layout.specs.Laid.{Laid}
-use Rattle.evidence.specs.Turns.{Turn}
+use Rattle.paper.specs.Facts.{nonePrevious}
+use Rattle.paper.specs.Files.{endAt, factsAt, factEnd, factPlace}
+use Rattle.paper.specs.Known.{Laid}
+use Rattle.paper.specs.Rules.{rule}
+use Rattle.paper.specs.Verdicts.{turnRules, turnsFrom, factRules}
+use Rattle.paper.proofs.VerdictLaws.{turns-on, turns-stop}
+use Rattle.evidence.specs.declared.Kept.{Kept}
+use Rattle.evidence.specs.declared.Turn.{Turn}
+use Rattle.evidence.specs.declared.Turn.the-variants as Turns
+use Rattle.evidence.specs.Turns.{verdictOf, Told}
 
 module _ (f : List ℕ) (t : Trailer) where
-  pub first-turn : Laid f t → (p : ℕ) → p ≡ factsAt t → Turn f t 0 p 0 0
-  unfolding factPlace
-  first-turn laid p e = record { here = e; room = omega (arith, laid .room); before = λ h. absurd (omega arith) }
+  -- 19: "bytes left between last fact and trailer"
+  abbrev left : Verdict
+  left = rule 19 0 (ltb (factPlace f t (t .facts)) (endAt f)) Accepted
 
-  module _ (i n : ℕ) (w : Passed (badFact f t) (t .facts) i) (h : i < t .facts) (e : n ≡ factRule f t i) where
-    pub turn-passed : n ≡ 0 → Passed (badFact f t) (t .facts) (i + 1)
-    unfolding badFact
-    turn-passed z = passed-more (badFact f t) (t .facts) i false w h (rw (← e, eq-eqb n 0 z) refl) refl
+  -- It is the turn of fact i, which stands at p after the previous one: what is still to be judged decides.
+  pub record Walked (i : ℕ) (previous : Previous) (p : ℕ) : Type 0 where
+    pub within : i ≤ t .facts
+    pub here : p ≡ factPlace f t i
+    pub room : p ≤ endAt f
+    pub rest : factRules f t Accepted ≡ turnsFrom f t (t .facts - i) i previous p left
 
-    bad : n ≢ 0 → true ≡ badFact f t i
-    unfolding badFact
-    bad z = rw (← e, ne-eqb n 0 z) refl
+  pub walk-start : Laid f t → (p : ℕ) → p ≡ factsAt t → Walked 0 nonePrevious p
+  unfolding factRules factPlace
+  walk-start laid p e =
+      let z : t .facts - 0 ≡ t .facts = omega arith in
+      record { within = omega arith; here = e; room = omega (arith, laid .room); rest = rw (z, e) refl }
 
-    pub turn-broken : n ≢ 0 → Refused (refuse n i) ≡ factRules f t
-    unfolding factRules
-    turn-broken z =
-        let k : i ≡ least (badFact f t) (t .facts) = least-found (badFact f t) (t .facts) i true w h (bad z) refl in
-        rw (← some-found (badFact f t) (t .facts) i w true h (bad z) refl, ← k) (ap (λ x. Refused (refuse x i)) e)
+  module _ (i : ℕ) (previous : Previous) (p : ℕ) (w : Walked i previous p) where
+    module _ (h : i < t .facts) (r : Turn) (told : Told f t p (turnRules f t i previous p) r) where
+      one-more : t .facts - i ≡ suc (t .facts - (i + 1))
+      one-more = omega arith
 
-  module _ (i p : ℕ) (w : Passed (badFact f t) (t .facts) i) (h : t .facts ≤ i) (e : p ≡ factPlace f t i) where
-    none-bad : some (badFact f t) (t .facts) ≡ false
-    none-bad = some-none (badFact f t) (t .facts) (λ k l. w .none k (omega arith))
+      pub walk-on : (k : Kept) → r ≡ Turns.Kept k → Walked (i + 1) (k .previous) (k .end)
+      unfolding factPlace
+      walk-on k e =
+          let n = told .next k e in
+          record {
+            within = omega arith;
+            here = rw (add-one i) (n .end-is ∙ ap (factEnd f t) (w .here));
+            room = n .room;
+            rest =
+                w .rest
+                ∙ ap (λ m. turnsFrom f t m i previous p left) one-more
+                ∙ turns-on f t (t .facts - (i + 1)) i previous p left (verdictOf r) (told .verdict) (ap verdictOf e)
+                ∙ rw (n .previous-is, n .end-is, add-one i) refl;
+          }
 
-    ends : factPlace f t (t .facts) ≡ p
-    ends = let k : t .facts ≡ i = omega (arith, w .within) in ap (factPlace f t) k ∙ sym e
+      pub walk-stops : (x : Refusal) → r ≡ Turns.Refused x → Refused x ≡ factRules f t Accepted
+      walk-stops x e =
+          sym
+          (w .rest
+          ∙ ap (λ m. turnsFrom f t m i previous p left) one-more
+          ∙ turns-stop f t (t .facts - (i + 1)) i previous p left (verdictOf r) (told .verdict) x (ap verdictOf e))
 
-    -- "bytes left between last fact and trailer"
-    pub walk-left : p < endAt f → Refused (refuse 19 0) ≡ factRules f t
-    unfolding factRules
-    walk-left l = rw (none-bad, ends, lt-ltb p (endAt f) l) refl
+    module _ (h : t .facts ≤ i) where
+      ends : factRules f t Accepted ≡ rule 19 0 (ltb p (endAt f)) Accepted
+      unfolding turnsFrom
+      ends =
+          let z : t .facts - i ≡ 0 = omega arith in
+          let q : t .facts ≡ i = omega (arith, w .within) in
+          let k : factPlace f t (t .facts) ≡ p = ap (factPlace f t) q ∙ sym (w .here) in
+          w .rest ∙ rw (z, k) refl
 
-    pub walk-done : endAt f ≤ p → Accepted ≡ factRules f t
-    unfolding factRules
-    walk-done l = rw (none-bad, ends, le-ltb p (endAt f) l) refl
+      pub walk-left : (x : Refusal) → p < endAt f → x ≡ refuse 19 0 → Refused x ≡ factRules f t Accepted
+      walk-left x l e = sym (ends ∙ rw (lt-ltb p (endAt f) l, e) refl)
+
+      pub walk-done : endAt f ≤ p → Accepted ≡ factRules f t Accepted
+      walk-done l = sym (ends ∙ rw (le-ltb p (endAt f) l) refl)

@@ -1,43 +1,32 @@
--- "then for each fact in turn 11 to 18": what is known when it is a fact's turn, and what its turn tells. Assumes nothing.
-use Prim.Native.Nat.{ℕ, _+_, _-_, _≤_, _<_}
+-- "then for each fact in turn 11 to 18": what a fact's turn tells.
+use Prim.Native.Nat.{ℕ, _+_, _≤_}
 use mathlib.Core.Path.{_≡_}
-use mathlib.Core.Bool.{cond}
 use mathlib.Core.List.{List}
-use lib.Dec.{ltb}
 use Rattle.paper.specs.declared.Trailer.{Trailer}
-use Rattle.paper.specs.Files.{u16At, endAt, factAt, factEnd, factPlace, caseOf}
-use Rattle.paper.specs.Facts.{unfetched, evidenceRule}
-use Rattle.paper.specs.Verdicts.{factRule}
-use Rattle.fact.specs.declared.Head.{Head}
-use Rattle.fact.specs.Stands.{scopeAt}
-use Rattle.evidence.specs.declared.Judged.{Judged}
+use Rattle.paper.specs.declared.Verdict.{Verdict}
+use Rattle.paper.specs.declared.Verdict.the-variants as Verdicts
+use Rattle.paper.specs.Files.{u16At, endAt, factAt, factEnd, caseOf}
+use Rattle.paper.specs.Facts.{previousOf}
+use Rattle.evidence.specs.declared.Names.{Names}
+use Rattle.evidence.specs.declared.Kept.{Kept}
+use Rattle.evidence.specs.declared.Turn.{Turn}
+use Rattle.evidence.specs.declared.Turn.the-variants as Turns
 
--- The block of fact i, and its scope's last node.
-pub record Previous (f : List ℕ) (t : Trailer) (i block last : ℕ) : Type 0 where
-  pub block-is : block ≡ u16At f (factPlace f t i + 2)
-  pub last-is : last ≡ scopeAt f t (factPlace f t i) .last
+-- what the fact that stands at p names
+abbrev pub namesAt : List ℕ → ℕ → Names
+namesAt f p = record { scope = u16At f p; block = u16At f (p + 2); limit = u16At f (p + 4) }
 
--- Fact i stands at p, before the trailer; where there is one before it, its block and its scope's last node are known.
-pub record Turn (f : List ℕ) (t : Trailer) (i p block last : ℕ) : Type 0 where
-  pub here : p ≡ factPlace f t i
-  pub room : p ≤ endAt f
-  pub before : 0 < i → Previous f t (i - 1) block last
+abbrev pub verdictOf : Turn → Verdict
+verdictOf (Turns.Kept k) = Verdicts.Accepted
+verdictOf (Turns.Refused r) = Verdicts.Refused r
 
--- 14 to 18, for the fact that stands at p: "no node of the scope fetches b", "rows cut short", and its rows.
-unfoldable pub lateRule : List ℕ → Trailer → ℕ → ℕ
-lateRule f t p =
-    cond (unfetched (caseOf f t) (factAt f p)) 14
-    (cond (ltb (endAt f) (factEnd f t p)) 15 (evidenceRule (caseOf f t) (factAt f p)))
+-- After the fact that stands at p: what it is to the next one, and where that one stands.
+pub record Next (f : List ℕ) (t : Trailer) (p : ℕ) (k : Kept) : Type 0 where
+  pub previous-is : k .previous ≡ previousOf (caseOf f t) (factAt f p)
+  pub end-is : k .end ≡ factEnd f t p
+  pub room : k .end ≤ endAt f
 
--- The number of the first of the rules 14 to 18 that the fact breaks; where it breaks none, where it ends.
-pub record Weighs (f : List ℕ) (t : Trailer) (h : Head) (r : Judged) : Type 0 where
-  pub rule : r .number ≡ lateRule f t (h .place)
-  pub block-is : r .block ≡ h .block
-  pub last-is : r .last ≡ h .last
-  pub end-is : r .number ≡ 0 → r .end ≡ factEnd f t (h .place)
-  pub room : r .end ≤ endAt f
-
--- The number of the first rule that fact i breaks; where it breaks none, it is the next fact's turn.
-pub record Judges (f : List ℕ) (t : Trailer) (i : ℕ) (r : Judged) : Type 0 where
-  pub rule : r .number ≡ factRule f t i
-  pub next : r .number ≡ 0 → Turn f t (i + 1) (r .end) (r .block) (r .last)
+-- The fact that stands at p is judged by the chain: it is refused as the chain refuses, or it is kept.
+pub record Told (f : List ℕ) (t : Trailer) (p : ℕ) (chain : Verdict → Verdict) (r : Turn) : Type 0 where
+  pub verdict : verdictOf r ≡ chain Verdicts.Accepted
+  pub next : (k : Kept) → r ≡ Turns.Kept k → Next f t p k

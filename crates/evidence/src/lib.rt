@@ -1,91 +1,131 @@
 // Rules 11 to 19: the facts judged in turn, and what is left after the last.
 ghost use mathlib.Core.Path.{_≡_};
-ghost use Rattle.paper.specs.Verdicts as Verdicts;
-ghost use Rattle.layout.specs.Laid.{Laid};
-ghost use Rattle.evidence.specs.Fits.{Fits};
-ghost use Rattle.evidence.specs.Turns.{Turn, Weighs, Judges};
-ghost use Rattle.paper.specs.Files.{endAt};
-ghost use Rattle.fact.specs.Edges.{Ordered};
-ghost use Rattle.fact.specs.Stands.{Stands};
 ghost use Prim.Native.Nat.{_+_, _≤_};
+ghost use lib.Dec.{ltb};
+ghost use Rattle.paper.specs.Facts as Facts;
+ghost use Rattle.paper.specs.Files.{endAt, caseOf};
+ghost use Rattle.paper.specs.Known.{Laid, Shaped};
+ghost use Rattle.paper.specs.Verdicts as Verdicts;
+ghost use Rattle.fact.specs.Stands.{Stands};
+ghost use Rattle.evidence.specs.Turns.{namesAt, Told};
 use fact::Head;
+use paper::Previous;
+use paper::Refusal;
 use paper::Trailer;
 use paper::Verdict;
 
-// A fact's turn: the number of the rule that it breaks, or 0 with its block, its scope's last node, and where it ends.
-struct Judged {
-    pub number: u8,
+// "A fact names a scope …, a block b and an age limit l", as they stand in the file.
+pub struct Names {
+    pub scope: u16,
     pub block: u16,
-    pub last: u16,
+    pub limit: u16,
+}
+
+// A fact that passes its turn: what it is to the next one, and where it ends.
+pub struct Kept {
+    pub previous: Previous,
     pub end: usize,
 }
 
-fn told(number: u8, block: u16, last: u16, end: usize) -> Judged
-    ensures { λ r. ⌜ r ≡ record { number = number; block = block; last = last; end = end } ⌝ }
+pub enum Turn {
+    Kept(Kept),
+    Refused(Refusal),
+}
+
+// From p on, fewer than n bytes are left before the trailer.
+pub fn short_of(file: &[u8], t: Trailer, p: usize, n: usize) -> bool
+    requires { ⌜ Laid (now file) t ⌝ }
+    requires { ⌜ p ≤ endAt (now file) ⌝ }
+    ensures { λ r. ⌜ r ≡ ltb (endAt (now (file .entry))) (p + n) ⌝ }
 {
-    Judged {
-        number: number,
-        block: block,
-        last: last,
-        end: end,
+    file.len() - 32 - p < n
+}
+
+pub fn names_at(file: &[u8], t: Trailer, p: usize) -> Names
+    requires { ⌜ Laid (now file) t ⌝ }
+    requires { ⌜ p + 6 ≤ endAt (now file) ⌝ }
+    ensures { λ r. ⌜ r ≡ namesAt (now (file .entry)) p ⌝ }
+{
+    Names {
+        scope: layout::u16_at(file, p),
+        block: layout::u16_at(file, p + 2),
+        limit: layout::u16_at(file, p + 4),
     }
 }
 
-// 14 to 18, for the fact at hand, of which the first 6 bytes are there.
-fn weigh(file: &[u8], t: Trailer, h: Head) -> Judged
+// 12: "its loop number, block or l out of range"
+pub fn wrong_head(t: Trailer, w: u16, b: u16, l: u16) -> bool
+    ensures { λ r. ⌜ r ≡ Facts.wrongHead (t .loops) (t .ways) w b l ⌝ }
+{
+    ((t.loops <= w) & (w != 65535)) | ((b == 65535) | ((l < 1) | ((t.ways as u16) < l)))
+}
+
+// 13: "block below the previous fact's, or equal and its scope starts at or before the previous scope's last node"
+pub fn wrong_order(previous: Previous, b: u16, first: u16) -> bool
+    ensures { λ r. ⌜ r ≡ Facts.wrongOrder previous b first ⌝ }
+{
+    previous.any & ((b < previous.block) | ((b == previous.block) & (first <= previous.last)))
+}
+
+// 14 to 18, for fact i, which is the one at hand and of which the first 6 bytes are there.
+fn weigh(file: &[u8], t: Trailer, i: u16, h: Head) -> Turn
     requires { ⌜ Laid (now file) t ⌝ }
-    requires { ⌜ Ordered (now file) t ⌝ }
+    requires { ⌜ Shaped (caseOf (now file) t) ⌝ }
     requires { ⌜ Stands (now file) t h ⌝ }
     requires { ⌜ h .place + 6 ≤ endAt (now file) ⌝ }
-    ensures { λ r. ⌜ Weighs (now (file .entry)) t h r ⌝ }
+    ensures { λ r. ⌜ Told (now (file .entry)) t (h .place) (Verdicts.bodyRules (now (file .entry)) t i (h .place)) r ⌝ }
 {
     if fact::unfetched(file, t, h) {
-        return told(14, h.block, h.last, 0);
+        return Turn::Refused(paper::refuse(14, i as usize));
     }
     let begin = h.place + 6;
     let rows = 16 * (fact::nodes_of(h) as usize);
-    if file.len() - 32 - begin < rows {
-        return told(15, h.block, h.last, 0);
+    if short_of(file, t, begin, rows) {
+        return Turn::Refused(paper::refuse(15, i as usize));
     }
-    told(
-        fact::evidence_rule(file, t, h),
-        h.block,
-        h.last,
-        begin + rows,
-    )
+    let evidence = fact::evidence_rules(file, t, i, h);
+    match evidence {
+        Verdict::Accepted => Turn::Kept(Kept {
+            previous: Previous {
+                any: true,
+                block: h.block,
+                last: h.last,
+            },
+            end: begin + rows,
+        }),
+        Verdict::Refused(r) => Turn::Refused(r),
+    }
 }
 
-// Fact i, which stands at p, by the rules 11 to 18. The fact before it has the block `block` and a scope that ends with the node `last`.
-fn judge(file: &[u8], t: Trailer, i: u16, p: usize, block: u16, last: u16) -> Judged
+// The turn of fact i, which stands at p, after the previous one.
+pub fn turn_of(file: &[u8], t: Trailer, i: u16, previous: Previous, p: usize) -> Turn
     requires { ⌜ Laid (now file) t ⌝ }
-    requires { ⌜ Ordered (now file) t ⌝ }
-    requires { ⌜ Fits (now file) t ⌝ }
-    requires { ⌜ Turn (now file) t i p block last ⌝ }
-    ensures { λ r. ⌜ Judges (now (file .entry)) t i r ⌝ }
+    requires { ⌜ Shaped (caseOf (now file) t) ⌝ }
+    requires { ⌜ p ≤ endAt (now file) ⌝ }
+    ensures { λ r. ⌜ Told (now (file .entry)) t p (Verdicts.turnRules (now (file .entry)) t i previous p) r ⌝ }
 {
-    if file.len() - 32 - p < 6 {
-        return told(11, 0, 0, 0);
+    if short_of(file, t, p, 6) {
+        return Turn::Refused(paper::refuse(11, i as usize));
     }
-    let w = layout::u16_at(file, p);
-    let b = layout::u16_at(file, p + 2);
-    let l = layout::u16_at(file, p + 4);
-    if ((t.loops <= w) & (w != 65535)) | ((b == 65535) | ((l < 1) | ((t.ways as u16) < l))) {
-        return told(12, 0, 0, 0);
+    let n = names_at(file, t, p);
+    if wrong_head(t, n.scope, n.block, n.limit) {
+        return Turn::Refused(paper::refuse(12, i as usize));
     }
-    let scope = layout::range_at(file, t, w);
-    if (0 < i) & ((b < block) | ((b == block) & (scope.first <= last))) {
-        return told(13, 0, 0, 0);
+    let scope = layout::range_at(file, t, n.scope);
+    if wrong_order(previous, n.block, scope.first) {
+        return Turn::Refused(paper::refuse(13, i as usize));
     }
-    let home = paper::home(b, t.sets);
+    let home = paper::home(n.block, t.sets);
     weigh(
         file,
         t,
+        i,
         Head {
             place: p,
             first: scope.first,
             last: scope.last,
-            block: b,
-            limit: l,
+            block: n.block,
+            limit: n.limit,
             home: home,
         },
     )
@@ -94,23 +134,26 @@ fn judge(file: &[u8], t: Trailer, i: u16, p: usize, block: u16, last: u16) -> Ju
 // "then for each fact in turn 11 to 18; then 19"
 pub fn fact_rules(file: &[u8], t: Trailer) -> Verdict
     requires { ⌜ Laid (now file) t ⌝ }
-    requires { ⌜ Ordered (now file) t ⌝ }
-    requires { ⌜ Fits (now file) t ⌝ }
-    ensures { λ r. ⌜ r ≡ Verdicts.factRules (now (file .entry)) t ⌝ }
+    requires { ⌜ Shaped (caseOf (now file) t) ⌝ }
+    ensures { λ r. ⌜ r ≡ Verdicts.factRules (now (file .entry)) t Verdict.Accepted ⌝ }
 {
     let mut p: usize = 2 * (t.nodes as usize) + 4 * (t.edges as usize) + 8 * (t.loops as usize);
-    let mut block: u16 = 0;
-    let mut last: u16 = 0;
+    let mut previous = Previous {
+        any: false,
+        block: 0,
+        last: 0,
+    };
     let mut i: u16 = 0;
     while i < t.facts {
-        let r = judge(file, t, i, p, block, last);
-        if r.number != 0 {
-            return Verdict::Refused(paper::refuse(r.number, i as usize));
+        let r = turn_of(file, t, i, previous, p);
+        match r {
+            Turn::Refused(x) => return Verdict::Refused(x),
+            Turn::Kept(k) => {
+                previous = k.previous;
+                p = k.end;
+                i += 1;
+            }
         }
-        p = r.end;
-        block = r.block;
-        last = r.last;
-        i += 1;
     }
     if p < file.len() - 32 {
         return Verdict::Refused(paper::refuse(19, 0));

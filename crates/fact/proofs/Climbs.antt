@@ -1,4 +1,4 @@
--- Numbers that never fall from one to the next. Assumes nothing.
+-- Numbers that never fall from one to the next.
 use Prim.Native.Nat.{ℕ, zero, suc, _≤_, _<_}
 use native.Mathlib.Omega.{arith}
 use native.Mathlib.Decide.{decLe}

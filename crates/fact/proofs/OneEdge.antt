@@ -1,4 +1,4 @@
--- Rule 17 for one edge, branch by branch. Assumes nothing.
+-- Rule 17 for one edge, branch by branch.
 use Prim.Native.Nat.{ℕ, _+_, _*_, _≤_, _<_}
 use native.Mathlib.Omega.{arith}
 use native.Mathlib.Decide.{ℕ-discrete}

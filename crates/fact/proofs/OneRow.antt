@@ -1,4 +1,4 @@
--- Rule 16 for one row, branch by branch. Assumes nothing.
+-- Rule 16 for one row, branch by branch.
 use Prim.Native.Nat.{ℕ, _+_, _*_, _≤_, _<_}
 use native.Mathlib.Omega.{arith}
 use mathlib.Core.Path.{_≡_, refl, sym, _∙_}

@@ -1,4 +1,4 @@
--- Rule 17 for the edges of the file: one counts where both its ends are in the scope, and those that may stand together. Assumes nothing.
+-- Rule 17 for the edges of the file: one counts where both its ends are in the scope, and those that may stand together.
 use Prim.Native.Nat.{ℕ, _+_, _-_, _≤_, _<_}
 use native.Mathlib.Omega.{arith}
 use native.Mathlib.Decide.{decLe}
@@ -11,6 +11,7 @@ use lib.Dec.{ltb}
 use Rattle.paper.specs.declared.Trailer.{Trailer}
 use Rattle.paper.specs.Cases.{scopeOf}
 use Rattle.paper.specs.Files.{nodeAt, fromAt, toAt, caseOf}
+use Rattle.paper.specs.Known.{Shaped}
 use Rattle.paper.specs.Lists.{some}
 use Rattle.paper.specs.Facts.{badStepAt}
 use Rattle.paper.proofs.Least.{Passed, passed-more, some-none}
@@ -20,7 +21,7 @@ use Rattle.paper.proofs.GraphLaws.{inside-says}
 use Rattle.paper.proofs.TestLaws.{step-says}
 use Rattle.fact.specs.declared.Head.{Head}
 use Rattle.fact.specs.Stands.{Stands, factOf}
-use Rattle.fact.specs.Edges.{Ordered, Splits, From}
+use Rattle.fact.specs.Edges.{Splits, From}
 use Rattle.fact.specs.Rows.{breaksAt}
 use Rattle.fact.proofs.Climbs.{climbs}
 
@@ -85,12 +86,13 @@ module _ (f : List ℕ) (t : Trailer) (h : Head) (s : Stands f t h) (i : ℕ) wh
         record { passed = passed-more _ _ _ b (w .passed) l e z; above = λ k q. w .above k (omega arith) }
 
     -- the edges from here on come from nodes after the scope
-    pub reached-after : Ordered f t → (u : ℕ) → u ≡ fromAt f t i → h .last < u → false ≡ some (badStepAt (caseOf f t) (factOf f h)) (t .edges)
+    pub reached-after : Shaped (caseOf f t) → (u : ℕ) → u ≡ fromAt f t i → h .last < u → false ≡ some (badStepAt (caseOf f t) (factOf f h)) (t .edges)
+    unfolding caseOf
     reached-after o u e q =
         sym
         (some-none (badStepAt (caseOf f t) (factOf f h)) (t .edges)
         (λ k z.
         elim (decLe i k) [
-          | yes y ↦ step-after f t h s k (omega (arith, climbs (fromAt f t) (t .edges) (o .rises) i k y z))
+          | yes y ↦ step-after f t h s k (omega (arith, climbs (fromAt f t) (t .edges) (o .climbs) i k y z))
           | no y ↦ w .passed .none k (omega arith)
         ]))

@@ -1,14 +1,17 @@
--- The scope of the fact at hand, as the paper's definitions have it. Assumes nothing.
+-- The scope of the fact at hand, as the paper's definitions have it.
 use Prim.Native.Nat.{ℕ, _+_, _*_, _%_, _≤_, _<_}
 use native.Mathlib.Omega.{arith}
 use mathlib.Core.Path.{_≡_, refl, _∙_, ap}
-use mathlib.Core.Bool.{Bool, cond, not}
+use mathlib.Core.Bool.{Bool, not}
 use mathlib.Core.List.{List}
 use Rattle.paper.specs.declared.Trailer.{Trailer}
+use Rattle.paper.specs.declared.Verdict.the-variants.{Accepted}
 use Rattle.paper.specs.Cases.{Case, scopeOf, size, fetches}
 use Rattle.paper.specs.Files.{rowAt, factAt, caseOf}
 use Rattle.paper.specs.Lists.{some}
-use Rattle.paper.specs.Facts.{unfetched, badRow, badRowAt, badStepAt, badManyAt, evidenceRule}
+use Rattle.paper.specs.Facts.{unfetched, badRow, badRowAt, badStepAt, badManyAt}
+use Rattle.paper.specs.Rules.{rule}
+use Rattle.paper.specs.Verdicts.{rowRules, stepRules, manyRules, evidenceRules}
 use Rattle.fact.specs.declared.Head.{Head}
 use Rattle.fact.specs.Stands.{Stands, factOf, nodesOf}
 
@@ -35,10 +38,11 @@ module _ (f : List ℕ) (t : Trailer) (h : Head) (s : Stands f t h) where
   unfetched-is n b e q = rw (scope-size, ← e, ← q) refl
 
   pub evidence-is :
-      (a b c : Bool) → a ≡ some (badRowAt (caseOf f t) (factOf f h)) (nodesOf h) → b ≡ some (badStepAt (caseOf f t) (factOf f h)) (t .edges) →
-      c ≡ some (badManyAt (caseOf f t) (factOf f h)) (nodesOf h) → cond a 16 (cond b 17 (cond c 18 0)) ≡ evidenceRule (caseOf f t) (factOf f h)
-  unfolding evidenceRule
-  evidence-is a b c x y z = cc (scope-size, edges-is)
+      (i : ℕ) (a b c : Bool) → a ≡ some (badRowAt (caseOf f t) (factOf f h)) (nodesOf h) → b ≡ some (badStepAt (caseOf f t) (factOf f h)) (t .edges) →
+      c ≡ some (badManyAt (caseOf f t) (factOf f h)) (nodesOf h) →
+      rule 16 i a (rule 17 i b (rule 18 i c Accepted)) ≡ evidenceRules (caseOf f t) i (factOf f h) Accepted
+  unfolding rowRules stepRules manyRules
+  evidence-is i a b c x y z = cc (scope-size, edges-is)
 
 -- the row of the scope's node j, where it stands
 pub row-is : (e : Case) (f : List ℕ) (p j at : ℕ) → at ≡ p + 6 + 16 * j → badRow e (factAt f p) (rowAt f at) ≡ badRowAt e (factAt f p) j

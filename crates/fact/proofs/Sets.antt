@@ -1,4 +1,4 @@
--- Sets of blocks: node u's block looked for in one, and one set looked for in another, where both rise. Assumes nothing.
+-- Sets of blocks: node u's block looked for in one, and one set looked for in another, where both rise.
 use Prim.Native.Nat.{ℕ, suc, _+_, _%_, _≤_, _<_}
 use native.Mathlib.Omega.{arith}
 use native.Mathlib.Numerals.{add-one}

@@ -1,4 +1,4 @@
--- A row's slots, tested one after the other: the blocks of a set by what may come next, then the free ones. Assumes nothing.
+-- A row's slots, tested one after the other: the blocks of a set by what may come next, then the free ones.
 use Prim.Native.Nat.{ℕ, zero, suc, _+_, _-_, _%_, _≤_, _<_}
 use native.Mathlib.Omega.{arith}
 use native.Mathlib.Numerals.{add-one}

@@ -1,14 +1,10 @@
--- The edges, "strictly rising by from": those from the nodes of a scope stand together. Assumes nothing.
-use Prim.Native.Nat.{ℕ, suc, _≤_, _<_}
+-- The edges, "strictly rising by from": those from the nodes of a scope stand together.
+use Prim.Native.Nat.{ℕ, _≤_, _<_}
 use mathlib.Core.Path.{_≡_}
 use mathlib.Core.List.{List}
 use Rattle.paper.specs.declared.Trailer.{Trailer}
 use Rattle.paper.specs.Files.{fromAt}
 use Rattle.fact.specs.declared.Head.{Head}
-
--- Rule 6 is passed: no edge comes from a node before that of the edge before it.
-pub record Ordered (f : List ℕ) (t : Trailer) : Type 0 where
-  pub rises : (i : ℕ) → suc i < t .edges → fromAt f t i ≤ fromAt f t (suc i)
 
 -- The edges before `low` come from nodes before v, and those from `high` on do not.
 pub record Splits (f : List ℕ) (t : Trailer) (v low high : ℕ) : Type 0 where

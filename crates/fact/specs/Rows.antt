@@ -1,4 +1,4 @@
--- What is asked of a row, and of the two rows at the ends of an edge, in the parts in which it is looked at. Assumes nothing.
+-- What is asked of a row, and of the two rows at the ends of an edge, in the parts in which it is looked at.
 use Prim.Native.Nat.{ℕ, suc, _+_, _<_, _≤_}
 use mathlib.Core.Path.{_≡_}
 use mathlib.Core.Bool.{Bool, not, _&&_}

@@ -1,4 +1,4 @@
--- What is known of the fact at hand when its nodes, rows and edges are looked at. Assumes nothing.
+-- What is known of the fact at hand when its nodes, rows and edges are looked at.
 use Prim.Native.Nat.{ℕ, suc, _+_, _-_, _*_, _%_, _≤_, _<_}
 use mathlib.Core.Path.{_≡_}
 use mathlib.Core.Bool.{false}

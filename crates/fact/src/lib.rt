@@ -5,16 +5,18 @@ ghost use Rattle.paper.specs.Lists.{some};
 ghost use Rattle.paper.specs.Files as Files;
 ghost use Rattle.paper.specs.Facts as Facts;
 ghost use Rattle.paper.specs.Cases as Cases;
-ghost use Rattle.layout.specs.Laid.{Laid};
+ghost use Rattle.paper.specs.Verdicts as Verdicts;
+ghost use Rattle.paper.specs.Known.{Laid, Shaped};
 ghost use Rattle.fact.specs.Stands.{factOf, nodesOf, Stands, Whole};
-ghost use Rattle.fact.specs.Edges.{Ordered};
-use paper::Trailer;
-use rows::bad_rows;
-use rows::row_at;
-use steps::bad_steps;
 
 mod rows;
 mod steps;
+
+use paper::Trailer;
+use paper::Verdict;
+pub use rows::bad_rows;
+use rows::row_at;
+pub use steps::bad_steps;
 
 // The fact at hand: where it stands, its scope's first and last node, its block b, its limit, and b's set.
 pub struct Head {
@@ -75,7 +77,7 @@ fn bad_many(file: &[u8], t: Trailer, h: Head, j: u16) -> bool
 }
 
 // 18: "a node that fetches b has row 8"
-fn bad_manys(file: &[u8], t: Trailer, h: Head) -> bool
+pub fn bad_manys(file: &[u8], t: Trailer, h: Head) -> bool
     requires { ⌜ Laid (now file) t ⌝ }
     requires { ⌜ Stands (now file) t h ⌝ }
     requires { ⌜ Whole (now file) h ⌝ }
@@ -92,22 +94,22 @@ fn bad_manys(file: &[u8], t: Trailer, h: Head) -> bool
     false
 }
 
-// The number of the first of the rules 16 to 18 that the fact's rows break; 0 where they break none.
-pub fn evidence_rule(file: &[u8], t: Trailer, h: Head) -> u8
+// 16 to 18, the evidence of fact i.
+pub fn evidence_rules(file: &[u8], t: Trailer, i: u16, h: Head) -> Verdict
     requires { ⌜ Laid (now file) t ⌝ }
-    requires { ⌜ Ordered (now file) t ⌝ }
+    requires { ⌜ Shaped (Files.caseOf (now file) t) ⌝ }
     requires { ⌜ Stands (now file) t h ⌝ }
     requires { ⌜ Whole (now file) h ⌝ }
-    ensures { λ r. ⌜ r ≡ Facts.evidenceRule (Files.caseOf (now (file .entry)) t) (factOf (now (file .entry)) h) ⌝ }
+    ensures { λ r. ⌜ r ≡ Verdicts.evidenceRules (Files.caseOf (now (file .entry)) t) i (factOf (now (file .entry)) h) Verdict.Accepted ⌝ }
 {
     if bad_rows(file, t, h) {
-        return 16;
+        return Verdict::Refused(paper::refuse(16, i as usize));
     }
     if bad_steps(file, t, h) {
-        return 17;
+        return Verdict::Refused(paper::refuse(17, i as usize));
     }
     if bad_manys(file, t, h) {
-        return 18;
+        return Verdict::Refused(paper::refuse(18, i as usize));
     }
-    0
+    Verdict::Accepted
 }

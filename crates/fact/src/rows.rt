@@ -5,7 +5,7 @@ ghost use lib.ListN.{length};
 ghost use Rattle.paper.specs.Lists.{some};
 ghost use Rattle.paper.specs.Files as Files;
 ghost use Rattle.paper.specs.Facts as Facts;
-ghost use Rattle.layout.specs.Laid.{Laid};
+ghost use Rattle.paper.specs.Known.{Laid};
 ghost use Rattle.fact.specs.Stands.{factOf, nodesOf, Stands, Whole};
 ghost use Rattle.fact.specs.Rows.{SetAt, unfree};
 use crate::Head;

@@ -4,9 +4,9 @@ ghost use Prim.Native.Nat.{_<_};
 ghost use Rattle.paper.specs.Lists.{some};
 ghost use Rattle.paper.specs.Files as Files;
 ghost use Rattle.paper.specs.Facts as Facts;
-ghost use Rattle.layout.specs.Laid.{Laid};
+ghost use Rattle.paper.specs.Known.{Laid, Shaped};
 ghost use Rattle.fact.specs.Stands.{factOf, nodesOf, Stands, Whole, SoundRows};
-ghost use Rattle.fact.specs.Edges.{Ordered, Splits, From};
+ghost use Rattle.fact.specs.Edges.{Splits, From};
 ghost use Rattle.fact.specs.Rows.{SetAt, RisingAt, missing, forgets, breaksAt};
 use crate::Head;
 use crate::rows::row_at;
@@ -103,7 +103,7 @@ fn breaks(file: &[u8], t: Trailer, h: Head, x: u16, i: u16, j: u16) -> bool
 // The first edge from node v or a later one: edges rise by from.
 fn first_edge(file: &[u8], t: Trailer, v: u16) -> u16
     requires { ⌜ Laid (now file) t ⌝ }
-    requires { ⌜ Ordered (now file) t ⌝ }
+    requires { ⌜ Shaped (Files.caseOf (now file) t) ⌝ }
     ensures { λ r. ⌜ Splits (now (file .entry)) t v r r ⌝ }
 {
     let mut low: u16 = 0;
@@ -145,7 +145,7 @@ fn bad_step(file: &[u8], t: Trailer, h: Head, i: u16, u: u16) -> bool
 // 17: "an edge's rule broken". The edges from nodes of the scope stand together.
 pub fn bad_steps(file: &[u8], t: Trailer, h: Head) -> bool
     requires { ⌜ Laid (now file) t ⌝ }
-    requires { ⌜ Ordered (now file) t ⌝ }
+    requires { ⌜ Shaped (Files.caseOf (now file) t) ⌝ }
     requires { ⌜ Stands (now file) t h ⌝ }
     requires { ⌜ Whole (now file) h ⌝ }
     requires { ⌜ SoundRows (now file) t h ⌝ }

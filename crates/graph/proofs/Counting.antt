@@ -1,4 +1,4 @@
--- The table of counts, loop by loop, and rule 10 by it. Assumes nothing.
+-- The table of counts, loop by loop, and rule 10 by it.
 use Prim.Native.Nat.{ℕ, zero, suc, _≤_, _<_}
 use native.Mathlib.Omega.{arith}
 use native.Mathlib.Nat.{mul-pos}
@@ -23,9 +23,9 @@ use Rattle.loops.specs.Counts.{shown, factor, countTo}
 use Rattle.loops.proofs.Shown.{shown-small, shown-large}
 use Rattle.loops.proofs.Headers.{count-out, count-same}
 use Rattle.graph.specs.Filled.{Holds}
-use Rattle.graph.specs.Looped.{Looped}
+use Rattle.paper.specs.Known.{Shaped}
 use Rattle.graph.specs.Marks.{loopMark, marks, markedTo}
-use Rattle.graph.proofs.Laws.{keeps}
+use Rattle.paper.proofs.RuleLaws.{keeps}
 use Rattle.graph.proofs.Marking.{marked-start, marked-in, marked-out}
 
 product-pos : (g : ℕ → ℕ) (n : ℕ) → ((j : ℕ) → j < n → 0 < g j) → 0 < productTo g n
@@ -33,7 +33,7 @@ unfolding productTo
 product-pos g zero h = omega arith
 product-pos g (suc n) h = mul-pos (product-pos g n (λ j q. h j (omega arith))) (h n (omega arith))
 
-module _ (e : Case) (w : Looped e) where
+module _ (e : Case) (w : Shaped e) where
   count-pos : (v : ℕ) → 0 < count e v
   unfolding count
   count-pos v = product-pos (λ j. factor (e .loop j) v) (e .loops) (λ j q. pick (inside (e .loop j) v) (omega (arith, w .fits j q)))
@@ -65,7 +65,7 @@ module _ (e : Case) (w : Looped e) where
       go (fails k) ih = marked-out (marks e 10) 1 v n (λ p. k (p .0, omega (arith, p .1))) ∙ ih ∙ ap shown (sym (count-out e v n k))
 
 -- the table by which rule 10 is tested
-module _ (f : List ℕ) (t : Trailer) (w : Looped (caseOf f t)) (l : List ℕ)
+module _ (f : List ℕ) (t : Trailer) (w : Shaped (caseOf f t)) (l : List ℕ)
     (h : Holds (λ v. markedTo (marks (caseOf f t) 10) 1 v (t .loops)) (t .nodes) l) where
   shows : (v : ℕ) → v < t .nodes → getD l v 0 ≡ shown (count (caseOf f t) v)
   unfolding caseOf countTo count

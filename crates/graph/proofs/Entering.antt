@@ -1,5 +1,5 @@
 -- Rules 8 and 9 by the marks of the loops: a forward edge enters some loop beside its header exactly when the mark is above its source, and a backward one goes to no header around it when the mark is not.
--- Assumes nothing.
+--
 use Prim.Native.Nat.{ℕ, _≤_, _<_}
 use native.Mathlib.Omega.{arith}
 use native.Mathlib.Decide.{ℕ-discrete}
@@ -13,11 +13,11 @@ use Rattle.paper.specs.Graphs.{badEntry, badReturn}
 use Rattle.paper.proofs.Says.{says-lt, says-le, says-and, says-same}
 use Rattle.paper.proofs.GraphLaws.{entry-says, return-says}
 use Rattle.graph.specs.Filled.{Holds}
-use Rattle.graph.specs.Looped.{Looped}
+use Rattle.paper.specs.Known.{Shaped}
 use Rattle.graph.specs.Marks.{loopMark, marks, markedTo, breaks, edgeRule}
 use Rattle.graph.proofs.Marking.{marked-has, marked-le, marked-same}
 
-module _ (e : Case) (w : Looped e) (i : ℕ) where
+module _ (e : Case) (w : Shaped e) (i : ℕ) where
   entry-test : breaks 8 (e .from i) (e .to i) (markedTo (marks e 8) 0 (e .to i) (e .loops)) ≡ badEntry e i
   unfolding breaks marks loopMark
   entry-test =

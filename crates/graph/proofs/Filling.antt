@@ -1,4 +1,4 @@
--- A loop that fills a part of a table; and a table that holds one number for each node, loop by loop. Assumes nothing.
+-- A loop that fills a part of a table; and a table that holds one number for each node, loop by loop.
 use Prim.Native.Nat.{ℕ, _+_, _≤_, _<_}
 use native.Mathlib.Omega.{arith}
 use native.Mathlib.Decide.{ℕ-discrete, decLe, decLt}

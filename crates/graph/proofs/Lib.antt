@@ -1,7 +1,5 @@
-pub mod Before
-pub mod Laws
-pub mod Loops
 pub mod Filling
 pub mod Marking
 pub mod Entering
 pub mod Counting
+pub mod Chained

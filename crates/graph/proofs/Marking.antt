@@ -1,4 +1,4 @@
--- The laws of marks: a table that holds them, loop by loop, and what the last mark at a node says of all of them. Assumes nothing.
+-- The laws of marks: a table that holds them, loop by loop, and what the last mark at a node says of all of them.
 use Prim.Native.Nat.{ℕ, zero, suc, _+_, _≤_, _<_}
 use native.Mathlib.Omega.{arith}
 use native.Mathlib.Numerals.{add-one}
@@ -19,7 +19,7 @@ use Rattle.loops.specs.Handed.{Handed}
 use Rattle.loops.proofs.Handing.{handed-header}
 use Rattle.graph.specs.declared.marks.Mark.{Mark}
 use Rattle.graph.specs.Filled.{Filled, Holds}
-use Rattle.graph.specs.Looped.{Looped}
+use Rattle.paper.specs.Known.{Shaped}
 use Rattle.graph.specs.Marks.{loopMark, marks, markedTo}
 use Rattle.graph.proofs.Filling.{filled-out}
 
@@ -80,7 +80,7 @@ marked-same m k start v e zero = refl
 marked-same m k start v e (suc n) = rw (e n, marked-same m k start v e n) refl
 
 -- a loop's mark lies within the nodes
-pub mark-fits : (e : Case) → Looped e → (rule j : ℕ) (x : Mark) → j < e .loops → x ≡ marks e rule j → (x .from ≤ x .to) × (x .to ≤ e .nodes)
+pub mark-fits : (e : Case) → Shaped e → (rule j : ℕ) (x : Mark) → j < e .loops → x ≡ marks e rule j → (x .from ≤ x .to) × (x .to ≤ e .nodes)
 unfolding marks loopMark
 mark-fits e w rule j x q p =
     elim (ℕ-discrete rule 10) [

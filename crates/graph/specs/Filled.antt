@@ -1,4 +1,4 @@
--- Tables over the nodes: what one holds, and a part of one filled with a number. Assumes nothing.
+-- Tables over the nodes: what one holds, and a part of one filled with a number.
 use Prim.Native.Nat.{ℕ, _≤_, _<_}
 use mathlib.Core.Path.{_≡_}
 use mathlib.Core.List.{List}

@@ -1,4 +1,2 @@
-pub mod After
 pub mod Marks
-pub mod Looped
 pub mod Filled

@@ -1,4 +1,4 @@
--- Rules 8 to 10 with one number for each node, in place of a search among the loops for each edge or node. Assumes nothing.
+-- Rules 8 to 10 with one number for each node, in place of a search among the loops for each edge or node.
 use Prim.Native.Nat.{ℕ, zero, suc, _+_}
 use mathlib.Core.Bool.{Bool, cond, _&&_}
 use lib.Dec.{ltb, leb, eqb}

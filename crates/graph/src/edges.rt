@@ -5,22 +5,20 @@ ghost use lib.ListN.{length};
 ghost use Rattle.paper.specs.Lists.{least};
 ghost use Rattle.paper.specs.Graphs as Graphs;
 ghost use Rattle.paper.specs.Files.{caseOf};
-ghost use Rattle.layout.specs.Laid.{Laid};
+ghost use Rattle.paper.specs.Known.{Laid, Shaped};
 ghost use Rattle.graph.specs.Filled.{Holds};
-ghost use Rattle.graph.specs.Looped.{Edged, Looped};
 ghost use Rattle.graph.specs.Marks as Marks;
-ghost use Rattle.graph.specs.After as After;
 use crate::marks::mark_nodes;
 use paper::Trailer;
 
-fn bad_edge(nodes: u16, i: u16, a: u16, b: u16, u: u16, v: u16) -> bool
-    ensures { λ r. ⌜ r ≡ After.badEdgeAfter nodes i a b u v ⌝ }
+fn wrong_edge(nodes: u16, i: u16, a: u16, b: u16, u: u16, v: u16) -> bool
+    ensures { λ r. ⌜ r ≡ Graphs.wrongEdge nodes i a b u v ⌝ }
 {
     (nodes <= u) | ((nodes <= v) | ((0 < i) & !((a < u) | ((a == u) & (b < v)))))
 }
 
 // The least edge that breaks rule 6, or their number; a and b are the ends of the edge before.
-pub fn rule_6(file: &[u8], t: Trailer) -> u16
+pub fn first_bad_edge(file: &[u8], t: Trailer) -> u16
     requires { ⌜ Laid (now file) t ⌝ }
     ensures { λ r. ⌜ r ≡ least (Graphs.badEdge (caseOf (now (file .entry)) t)) (t .edges) ⌝ }
 {
@@ -30,7 +28,7 @@ pub fn rule_6(file: &[u8], t: Trailer) -> u16
     while i < t.edges {
         let u = layout::from_at(file, t, i);
         let v = layout::to_at(file, t, i);
-        if bad_edge(t.nodes, i, a, b, u, v) {
+        if wrong_edge(t.nodes, i, a, b, u, v) {
             return i;
         }
         a = u;
@@ -53,8 +51,7 @@ fn breaks(rule: u8, u: u16, v: u16, mark: u32) -> bool
 // The least edge that breaks the rule, 8 or 9, or their number.
 fn first_edge(file: &[u8], t: Trailer, table: &[u32], rule: u8) -> u16
     requires { ⌜ Laid (now file) t ⌝ }
-    requires { ⌜ Edged (caseOf (now file) t) ⌝ }
-    requires { ⌜ Looped (caseOf (now file) t) ⌝ }
+    requires { ⌜ Shaped (caseOf (now file) t) ⌝ }
     requires { ⌜ rule < 10 ⌝ }
     requires { ⌜ Holds (λ v. Marks.markedTo (Marks.marks (caseOf (now file) t) rule) 0 v (t .loops)) (t .nodes) (now table) ⌝ }
     ensures { λ r. ⌜ r ≡ least (Marks.edgeRule (caseOf (now (file .entry)) t) rule) (t .edges) ⌝ }
@@ -74,8 +71,7 @@ fn first_edge(file: &[u8], t: Trailer, table: &[u32], rule: u8) -> u16
 // Rules 8 and 9: the least edge that breaks the rule, or their number.
 pub fn edge_rule(file: &[u8], t: Trailer, table: &mut [u32], rule: u8) -> u16
     requires { ⌜ Laid (now file) t ⌝ }
-    requires { ⌜ Edged (caseOf (now file) t) ⌝ }
-    requires { ⌜ Looped (caseOf (now file) t) ⌝ }
+    requires { ⌜ Shaped (caseOf (now file) t) ⌝ }
     requires { ⌜ rule < 10 ⌝ }
     requires { ⌜ 1024 ≤ length (now table) ⌝ }
     ensures { λ r. ⌜ r ≡ least (Marks.edgeRule (caseOf (now (file .entry)) t) rule) (t .edges) ⌝ }

@@ -1,13 +1,10 @@
 // Edges, loops and counts: rules 6 to 10.
 ghost use mathlib.Core.Path.{_≡_};
-ghost use mathlib.Core.Bool.{false};
 ghost use Prim.Native.Nat.{_≤_};
 ghost use lib.ListN.{length};
-ghost use Rattle.paper.specs.Lists.{some};
-ghost use Rattle.paper.specs.Graphs as Graphs;
 ghost use Rattle.paper.specs.Files.{caseOf};
 ghost use Rattle.paper.specs.Verdicts as Verdicts;
-ghost use Rattle.layout.specs.Laid.{Laid};
+ghost use Rattle.paper.specs.Known.{Laid, Shaped};
 ghost use Rattle.layout.specs.Counted.{Counted};
 
 mod counts;
@@ -15,31 +12,56 @@ mod edges;
 mod marks;
 mod nesting;
 
-use counts::rule_10;
+use counts::first_bad_count;
 use edges::edge_rule;
-use edges::rule_6;
-use nesting::rule_7;
+use edges::first_bad_edge;
+use nesting::first_bad_loop;
 use paper::Trailer;
 use paper::Verdict;
 
-// Rules 8 to 10, where 6 and 7 are kept.
-fn rules_8_to_10(file: &[u8], t: Trailer, counts: &mut [u32]) -> Verdict
+// 6 and 7: edges and loops by themselves.
+pub fn shape_rules(file: &[u8], t: Trailer) -> Verdict
     requires { ⌜ Laid (now file) t ⌝ }
-    requires { ⌜ some (Graphs.badEdge (caseOf (now file) t)) (t .edges) ≡ false ⌝ }
-    requires { ⌜ some (Graphs.badLoop (caseOf (now file) t)) (t .loops) ≡ false ⌝ }
-    requires { ⌜ 1024 ≤ length (now counts) ⌝ }
-    ensures { λ r. ⌜ r ≡ Verdicts.graphRules (now (file .entry)) t Verdict.Accepted ⌝ }
-    ensures { λ r. ⌜ (r ≡ Verdict.Accepted → Counted (now (file .entry)) t (now (counts .exit))) ⌝ }
+    ensures { λ r. ⌜ r ≡ Verdicts.shapeRules (caseOf (now (file .entry)) t) Verdict.Accepted ⌝ }
 {
-    let forward = edge_rule(file, t, counts, 8);
+    let edge = first_bad_edge(file, t);
+    if edge < t.edges {
+        return Verdict::Refused(paper::refuse(6, edge as usize));
+    }
+    let looped = first_bad_loop(file, t);
+    if looped < t.loops {
+        return Verdict::Refused(paper::refuse(7, looped as usize));
+    }
+    Verdict::Accepted
+}
+
+// 8 and 9: the ways into loops and back. The table is overwritten.
+pub fn path_rules(file: &[u8], t: Trailer, table: &mut [u32]) -> Verdict
+    requires { ⌜ Laid (now file) t ⌝ }
+    requires { ⌜ Shaped (caseOf (now file) t) ⌝ }
+    requires { ⌜ 1024 ≤ length (now table) ⌝ }
+    ensures { λ r. ⌜ r ≡ Verdicts.pathRules (caseOf (now (file .entry)) t) Verdict.Accepted ⌝ }
+{
+    let forward = edge_rule(file, t, table, 8);
     if forward < t.edges {
         return Verdict::Refused(paper::refuse(8, forward as usize));
     }
-    let back = edge_rule(file, t, counts, 9);
+    let back = edge_rule(file, t, table, 9);
     if back < t.edges {
         return Verdict::Refused(paper::refuse(9, back as usize));
     }
-    let node = rule_10(file, t, counts);
+    Verdict::Accepted
+}
+
+// 10: the counts, which the table holds afterwards.
+pub fn count_rules(file: &[u8], t: Trailer, counts: &mut [u32]) -> Verdict
+    requires { ⌜ Laid (now file) t ⌝ }
+    requires { ⌜ Shaped (caseOf (now file) t) ⌝ }
+    requires { ⌜ 1024 ≤ length (now counts) ⌝ }
+    ensures { λ r. ⌜ r ≡ Verdicts.countRules (caseOf (now (file .entry)) t) Verdict.Accepted ⌝ }
+    ensures { λ r. ⌜ (r ≡ Verdict.Accepted → Counted (now (file .entry)) t (now (counts .exit))) ⌝ }
+{
+    let node = first_bad_count(file, t, counts);
     if node < t.nodes {
         return Verdict::Refused(paper::refuse(10, node as usize));
     }
@@ -49,17 +71,17 @@ fn rules_8_to_10(file: &[u8], t: Trailer, counts: &mut [u32]) -> Verdict
 pub fn graph_rules(file: &[u8], t: Trailer, counts: &mut [u32]) -> Verdict
     requires { ⌜ Laid (now file) t ⌝ }
     requires { ⌜ 1024 ≤ length (now counts) ⌝ }
-    ensures { λ r. ⌜ r ≡ Verdicts.graphRules (now (file .entry)) t Verdict.Accepted ⌝ }
+    ensures { λ r. ⌜ r ≡ Verdicts.graphRules (caseOf (now (file .entry)) t) Verdict.Accepted ⌝ }
     ensures { λ r. ⌜ length (now (counts .exit)) ≡ length (now (counts .entry)) ⌝ }
     ensures { λ r. ⌜ (r ≡ Verdict.Accepted → Counted (now (file .entry)) t (now (counts .exit))) ⌝ }
 {
-    let edge = rule_6(file, t);
-    if edge < t.edges {
-        return Verdict::Refused(paper::refuse(6, edge as usize));
+    let shape = shape_rules(file, t);
+    if let Verdict::Refused(r) = shape {
+        return Verdict::Refused(r);
     }
-    let looped = rule_7(file, t);
-    if looped < t.loops {
-        return Verdict::Refused(paper::refuse(7, looped as usize));
+    let paths = path_rules(file, t, counts);
+    if let Verdict::Refused(r) = paths {
+        return Verdict::Refused(r);
     }
-    rules_8_to_10(file, t, counts)
+    count_rules(file, t, counts)
 }

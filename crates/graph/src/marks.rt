@@ -3,9 +3,8 @@ ghost use mathlib.Core.Path.{_≡_};
 ghost use Prim.Native.Nat.{_≤_};
 ghost use lib.ListN.{length};
 ghost use Rattle.paper.specs.Files.{caseOf};
-ghost use Rattle.layout.specs.Laid.{Laid};
+ghost use Rattle.paper.specs.Known.{Laid, Shaped};
 ghost use Rattle.graph.specs.Filled.{Filled, Holds};
-ghost use Rattle.graph.specs.Looped.{Looped};
 ghost use Rattle.graph.specs.Marks as Marks;
 use paper::Loop;
 use paper::Trailer;
@@ -60,7 +59,7 @@ fn loop_mark(l: Loop, n: u32, rule: u8) -> Mark
 // All nodes begin with `start`, and the loops mark theirs in turn: loops come by rising headers, so an inner loop marks over those around it.
 pub fn mark_nodes(file: &[u8], t: Trailer, table: &mut [u32], rule: u8, start: u32)
     requires { ⌜ Laid (now file) t ⌝ }
-    requires { ⌜ Looped (caseOf (now file) t) ⌝ }
+    requires { ⌜ Shaped (caseOf (now file) t) ⌝ }
     requires { ⌜ 1024 ≤ length (now table) ⌝ }
     ensures { λ r. ⌜ Holds (λ v. Marks.markedTo (Marks.marks (caseOf (now (file .entry)) t) rule) start v (t .loops)) (t .nodes) (now (table .exit)) ⌝ }
 {

@@ -4,8 +4,7 @@ ghost use Prim.Native.Nat.{_<_};
 ghost use Rattle.paper.specs.Lists.{least};
 ghost use Rattle.paper.specs.Graphs as Graphs;
 ghost use Rattle.paper.specs.Files.{loopAt, caseOf};
-ghost use Rattle.layout.specs.Laid.{Laid};
-ghost use Rattle.graph.specs.After as After;
+ghost use Rattle.paper.specs.Known.{Laid};
 use paper::Loop;
 use paper::Trailer;
 
@@ -32,10 +31,10 @@ fn crossed(file: &[u8], t: Trailer, i: u16, l: Loop) -> u16
 }
 
 // Rule 7 for l, loop i; h is the header of the loop before.
-fn bad_loop(file: &[u8], t: Trailer, i: u16, h: u16, l: Loop) -> bool
+fn wrong_loop(file: &[u8], t: Trailer, i: u16, h: u16, l: Loop) -> bool
     requires { ⌜ Laid (now file) t ⌝ }
     requires { ⌜ i < t .loops ⌝ }
-    ensures { λ r. ⌜ r ≡ After.badLoopAfter (t .nodes) (loopAt (now (file .entry)) t) i h l ⌝ }
+    ensures { λ r. ⌜ r ≡ Graphs.wrongLoop (t .nodes) (loopAt (now (file .entry)) t) i h l ⌝ }
 {
     (l.last < l.first)
         | ((t.nodes <= l.last)
@@ -45,7 +44,7 @@ fn bad_loop(file: &[u8], t: Trailer, i: u16, h: u16, l: Loop) -> bool
 }
 
 // The least loop that breaks rule 7, or their number.
-pub fn rule_7(file: &[u8], t: Trailer) -> u16
+pub fn first_bad_loop(file: &[u8], t: Trailer) -> u16
     requires { ⌜ Laid (now file) t ⌝ }
     ensures { λ r. ⌜ r ≡ least (Graphs.badLoop (caseOf (now (file .entry)) t)) (t .loops) ⌝ }
 {
@@ -53,7 +52,7 @@ pub fn rule_7(file: &[u8], t: Trailer) -> u16
     let mut h: u16 = 0;
     while i < t.loops {
         let l = layout::loop_at(file, t, i);
-        if bad_loop(file, t, i, h, l) {
+        if wrong_loop(file, t, i, h, l) {
             return i;
         }
         h = l.first;

@@ -16,5 +16,5 @@ written f t lent Accepted = numbers (caseOf f t) ++ drop 321 lent
 written f t lent (Refused r) = lent
 
 pub record Judged (f : List ℕ) (t : Trailer) (lent : List ℕ) (r : Verdict) (after : List ℕ) : Type 0 where
-  pub answer : r ≡ graphRules f t (factRules f t)
+  pub answer : r ≡ graphRules (caseOf f t) (factRules f t Accepted)
   pub numbers : after ≡ written f t lent r

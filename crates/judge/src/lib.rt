@@ -1,10 +1,7 @@
 // The rules of a file that is laid out, put together: the graph's, then the facts', then the bounds.
-ghost use mathlib.Core.Path.{_≡_};
-ghost use mathlib.Core.Bool.{true};
 ghost use Prim.Native.Nat.{_≤_};
 ghost use lib.ListN.{length};
-ghost use Rattle.paper.specs.Machines.{inRange};
-ghost use Rattle.layout.specs.Laid.{Laid};
+ghost use Rattle.paper.specs.Known.{Laid};
 ghost use Rattle.judge.specs.Judged.{Judged};
 use paper::Trailer;
 use paper::Verdict;
@@ -12,7 +9,6 @@ use paper::Verdict;
 // Rules 6 to 19 and the 321 numbers, for a file that passes rules 1 to 5.
 pub fn judge(file: &[u8], t: Trailer, bounds: &mut [u64]) -> Verdict
     requires { ⌜ Laid (now file) t ⌝ }
-    requires { ⌜ inRange (t .policy) (t .ways) (t .sets) ≡ true ⌝ }
     requires { ⌜ 321 ≤ length (now bounds) ⌝ }
     ensures { λ r. ⌜ Judged (now (file .entry)) t (now (bounds .entry)) r (now (bounds .exit)) ⌝ }
 {

@@ -4,7 +4,7 @@ ghost use mathlib.Core.Logic.{_≢_};
 ghost use Prim.Native.Nat.{_<_};
 ghost use Rattle.paper.specs.Files as Files;
 ghost use Rattle.paper.specs.Cases as Cases;
-ghost use Rattle.layout.specs.Laid.{Laid};
+ghost use Rattle.paper.specs.Known.{Laid};
 use crate::bytes::u16_at;
 use crate::bytes::u32_at;
 use paper::Loop;

@@ -1,4 +1,4 @@
--- What is printed, by the verdict: the 321 numbers are the bounds, and a file with no layout is refused. Assumes nothing.
+-- What is printed, by the verdict: the 321 numbers are the bounds, and a file with no layout is refused.
 use Prim.Native.Nat.{ℕ, _+_, _≤_, _<_}
 use native.Mathlib.Omega.{arith}
 use mathlib.Core.Path.{_≡_, refl, sym, _∙_, ap, subst}
@@ -16,11 +16,11 @@ use Rattle.paper.specs.Answers.{refuse}
 use Rattle.paper.specs.Cases.{Case}
 use Rattle.paper.specs.Bounds.{factBound, setBound, numbers}
 use Rattle.paper.specs.Files.{trailerOf, caseOf, readCase}
-use Rattle.paper.specs.Verdicts.{verdict, lentAfter, factRules}
+use Rattle.paper.specs.Verdicts.{verdict, lentAfter}
 use Rattle.paper.specs.Listings.{boundLines, accepted, printed, refusalLine, listingOf}
 use Rattle.layout.specs.Layouts.{layoutOf}
 use Rattle.layout.specs.declared.Layout.the-variants as Layouts
-use Rattle.layout.specs.Laid.{Laid}
+use Rattle.paper.specs.Known.{Laid}
 use Rattle.layout.proofs.Laws.{refused-rules, read-trailer, read-laid}
 use Rattle.theory.proofs.Printed.{total-printed, set-printed, fact-printed}
 use Rattle.print.specs.Put.{Fits, Put}
@@ -53,7 +53,7 @@ module _ (f : List ℕ) where
 
   pub layout-text : (r : Refusal) → layoutOf f ≡ Layouts.Refused r → refusalLine r ≡ printed f (verdict f 321)
   unfolding verdict
-  layout-text r e = ap (printed f) (sym (refused-rules f r (factRules f (trailerOf f)) e))
+  layout-text r e = ap (printed f) (sym (refused-rules f r _ e))
 
   pub accepted-text : (lent after : List ℕ) (t : Trailer) (v : Verdict) → layoutOf f ≡ Layouts.Read t → v ≡ verdict f 321 → after ≡ lentAfter f lent v → v ≡ Accepted →
       numberLines after (t .sets) (t .facts) ≡ printed f (verdict f 321)

@@ -2,7 +2,7 @@
 ghost use mathlib.Core.Path.{_≡_};
 ghost use Prim.Native.Nat.{_*_, suc, _<_, _≤_};
 ghost use lib.ListN.{length, getD};
-ghost use Rattle.layout.specs.Laid.{Laid};
+ghost use Rattle.paper.specs.Known.{Laid};
 ghost use Rattle.loops.specs.Counts.{shown, factor, noLoop, countIn};
 ghost use Rattle.loops.specs.Handed.{Handed};
 use paper::Loop;

@@ -1,30 +1,28 @@
--- What the rules 12, 14 and 16 to 18 say of a whole fact, both ways. Assumes nothing.
-use Prim.Native.Nat.{ℕ, zero, suc, _+_, _-_, _≤_, _<_}
+-- What the rules 12, 14 and 16 to 18 say of a whole fact, both ways.
+use Prim.Native.Nat.{ℕ, _+_, _-_, _≤_, _<_}
 use native.Mathlib.Omega.{arith}
-use mathlib.Core.Path.{_≡_, refl, sym, _∙_, ap, subst}
-use mathlib.Core.Logic.{_≢_, _⊎_, inl, inr, ⊎-elim, _↔_}
-use mathlib.Core.Bool.{Bool, true, false, cond, not, _&&_}
+use mathlib.Core.Path.{_≡_, refl, _∙_, ap, subst}
+use mathlib.Core.Logic.{_⊎_, inl, inr, _↔_}
+use mathlib.Core.Bool.{false}
 use borrow.Author.Tests.{not-false}
+use Rattle.paper.specs.declared.Verdict.{Verdict}
+use Rattle.paper.specs.declared.Verdict.the-variants.{Accepted}
 use Rattle.paper.specs.Machines.{none}
-use Rattle.paper.specs.Lists.{some}
-use Rattle.paper.specs.Cases.{Row, Fact, Case, inside, size, scopeOf, rowOf, fetches}
-use Rattle.paper.specs.Walks.{Edge}
-use Rattle.paper.specs.Facts.{badHead, unfetched, badRow, badRowAt, breaks, badStepAt, badManyAt, evidenceRule}
+use Rattle.paper.specs.Cases.{Fact, Case, size, scopeOf, rowOf, fetches}
+use Rattle.paper.specs.Facts.{wrongHead, badHead, unfetched, badRowAt, breaks, badStepAt, badManyAt}
+use Rattle.paper.specs.Rules.{Passes}
+use Rattle.paper.specs.Verdicts.{rowRules, stepRules, manyRules, evidenceRules}
 use Rattle.paper.proofs.Least.{None, none-some, some-none, is-some}
-use Rattle.paper.proofs.Says.{Says, says-lt, says-le, says-eq, says-not, says-and, says-or, says-some, says-false, says-true, says-stable}
+use Rattle.paper.proofs.Says.{Says, says-lt, says-le, says-eq, says-not, says-and, says-or, says-some, says-false, says-true}
+use Rattle.paper.proofs.RuleLaws.{past}
 use Rattle.paper.proofs.Meaning.{In, SoundRow, EdgeRule, SoundEvidence, SoundHead}
 use Rattle.paper.proofs.GraphLaws.{inside-says}
 use Rattle.paper.proofs.RowLaws.{row-law, edge-law, breaks-says}
 
--- a rule that is kept, in a chain of rules by number
-pub pass : (b : Bool) (k r : ℕ) → cond b (suc k) r ≡ 0 → (b ≡ false) × (r ≡ 0)
-pass true k r h = absurd (omega arith)
-pass false k r h = (refl, h)
-
 module _ (e : Case) (t : Fact) where
   -- 12
   head-says : Says (((e .loops ≤ t .scope) × ¬ (t .scope ≡ none)) ⊎ ((t .block ≡ none) ⊎ ((t .limit < 1) ⊎ (e .ways < t .limit)))) (badHead e t)
-  unfolding badHead
+  unfolding badHead wrongHead
   head-says = says-or (says-and (says-le _ _) (says-not (says-eq _ _))) (says-or (says-eq _ _) (says-or (says-lt _ _) (says-lt _ _)))
 
   pub head-sound : badHead e t ≡ false → SoundHead e t
@@ -121,15 +119,19 @@ module _ (e : Case) (t : Fact) where
         many = λ j h. says-false (many-says j) .1 (λ p. s .many (first + j) (within j h) (p .0) (ap (λ (i : ℕ). t .row i .number) (place j) ∙ p .1));
       }
 
-  -- The rows pass 16 to 18 exactly when they are sound evidence.
-  pub evidence-law : (evidenceRule e t ≡ 0) ↔ SoundEvidence e t
-  unfolding evidenceRule
-  evidence-law = (
-    λ h.
-        let a = pass _ 15 _ h in
-        let b = pass _ 16 _ (a .1) in
-        let c = pass _ 17 _ (b .1) in
-        kept-sound (record { rows = none-some _ _ (a .0); edges = none-some _ _ (b .0); many = none-some _ _ (c .0) }),
+  pub evidence-kept : (i : ℕ) (rest : Verdict) → evidenceRules e i t rest ≡ Accepted → SoundEvidence e t × (rest ≡ Accepted)
+  unfolding rowRules stepRules manyRules
+  evidence-kept i rest h =
+      let a = past 16 i _ _ h in
+      let b = past 17 i _ _ (a .1) in
+      let c = past 18 i _ _ (b .1) in
+      (kept-sound (record { rows = none-some _ _ (a .0); edges = none-some _ _ (b .0); many = none-some _ _ (c .0) }), c .1)
+
+  -- The rows pass 16 to 18, at whatever place, exactly when they are sound evidence.
+  pub evidence-law : (i : ℕ) → Passes (evidenceRules e i t) ↔ SoundEvidence e t
+  unfolding rowRules stepRules manyRules
+  evidence-law i = (
+    λ h. evidence-kept i _ h .0,
     λ s.
         let k = sound-kept s in
         rw (some-none _ _ (k .rows), some-none _ _ (k .edges), some-none _ _ (k .many)) refl,

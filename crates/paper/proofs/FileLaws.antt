@@ -1,19 +1,24 @@
--- What the remaining tests say: of a trace's accesses, a line size, the trailer, and the order of facts. Assumes nothing.
+-- What the remaining tests say: of a trace's accesses, a line size, the trailer, and the order of facts.
 use Prim.Native.Nat.{ℕ, _+_, _≤_, _<_}
 use mathlib.Core.Path.{_≡_, sym}
-use mathlib.Core.Logic.{_⊎_, ⊎-elim}
+use mathlib.Core.Bool.{true, false}
+use mathlib.Core.Logic.{_⊎_, inl, inr, ⊎-elim}
 use mathlib.Core.List.{List, [], _∷_, List·Memᴰ, List·Memᴰ·head, List·Memᴰ·tail, List·Memᴰ·cases-cons, List·Memᴰ·not-nil}
+use native.Mathlib.Omega.{arith}
 use native.Mathlib.Decide.{ℕ-discrete}
 use borrow.Author.Tests.{eq-eqb, ne-eqb}
-use lib.ListN.{getD}
+use lib.ListN.{length, getD}
 use Rattle.paper.specs.declared.Trailer.{Trailer}
-use Rattle.paper.specs.Machines.{none, stands}
+use Rattle.paper.specs.declared.Previous.{Previous}
+use Rattle.paper.specs.Machines.{none, stands, inRange}
 use Rattle.paper.specs.Operations.{lineSize}
 use Rattle.paper.specs.Traces.{badAccess}
 use Rattle.paper.specs.Cases.{Fact, Case, scopeOf}
-use Rattle.paper.specs.Facts.{badOrder}
-use Rattle.paper.specs.Files.{u8At, u32At, endAt, letters, badLetter, badLetters, edgesAt, loopsAt, factsAt, badOffsets}
-use Rattle.paper.proofs.Says.{Says, holds, fails, says-lt, says-le, says-eq, says-not, says-and, says-or, says-some, says-as}
+use Rattle.paper.specs.Facts.{wrongOrder, badOrder}
+use Rattle.paper.specs.Files.{u8At, u32At, endAt, letters, badLetter, badLetters, badNumbers, edgesAt, loopsAt, factsAt, badOffsets}
+use Rattle.paper.specs.Known.{Laid}
+use Rattle.paper.proofs.Says.{Says, holds, fails, says-bool, says-lt, says-le, says-eq, says-not, says-and, says-or, says-some, says-as, says-false, says-true}
+use Rattle.paper.proofs.States.{says-range}
 
 pub stands-says : (lines : List ℕ) (b : ℕ) → Says (List·Memᴰ b lines) (stands lines b)
 unfolding stands
@@ -50,8 +55,38 @@ offsets-says f t =
     says-or (says-not (says-eq _ _))
     (says-or (says-not (says-eq _ _)) (says-or (says-not (says-eq _ _)) (says-or (says-not (says-eq _ _)) (says-lt _ _))))
 
+-- 4
+pub numbers-says : (t : Trailer) → Says ((t .nodes < 1) ⊎ ((1024 < t .nodes) ⊎ ((4096 < t .edges) ⊎ ((64 < t .loops) ⊎ (256 < t .facts))))) (badNumbers t)
+unfolding badNumbers
+numbers-says t = says-or (says-lt _ _) (says-or (says-lt _ _) (says-or (says-lt _ _) (says-or (says-lt _ _) (says-lt _ _))))
+
+-- A file that passes 1, 3, 4 and 5 is laid out as its trailer says.
+pub laid : (f : List ℕ) (t : Trailer) → 32 ≤ length f → inRange (t .policy) (t .ways) (t .sets) ≡ true → badNumbers t ≡ false → badOffsets f t ≡ false → Laid f t
+laid f t long cache numbers offsets =
+    let n = says-false (numbers-says t) .0 numbers in
+    let c = says-true (says-range (t .policy) (t .ways) (t .sets)) cache in
+    let a : ¬ (t .nodes < 1) = λ p. n (inl p) in
+    let b : ¬ (1024 < t .nodes) = λ p. n (inr (inl p)) in
+    let d : ¬ (4096 < t .edges) = λ p. n (inr (inr (inl p))) in
+    let g : ¬ (64 < t .loops) = λ p. n (inr (inr (inr (inl p)))) in
+    let h : ¬ (256 < t .facts) = λ p. n (inr (inr (inr (inr p)))) in
+    let o : ¬ (endAt f < factsAt t) = λ q. says-false (offsets-says f t) .0 offsets (inr (inr (inr (inr q)))) in
+    record {
+      long = long;
+      room = omega arith;
+      nodes-low = omega arith;
+      nodes-high = omega arith;
+      edges-high = omega arith;
+      loops-high = omega arith;
+      facts-high = omega arith;
+      ways-high = c .0 .most;
+      sets-low = c .1 .0;
+      sets-high = c .1 .1;
+      cache = cache;
+    }
+
 -- 13
-pub order-says : (e : Case) (p t : Fact) →
-    Says ((t .block < p .block) ⊎ ((t .block ≡ p .block) × (scopeOf e t .first ≤ scopeOf e p .last))) (badOrder e p t)
-unfolding badOrder
-order-says e p t = says-or (says-lt _ _) (says-and (says-eq _ _) (says-le _ _))
+pub order-says : (e : Case) (p : Previous) (t : Fact) →
+    Says ((p .any ≡ true) × ((t .block < p .block) ⊎ ((t .block ≡ p .block) × (scopeOf e t .first ≤ p .last)))) (badOrder e p t)
+unfolding badOrder wrongOrder
+order-says e p t = says-and (says-bool (p .any)) (says-or (says-lt _ _) (says-and (says-eq _ _) (says-le _ _)))

@@ -1,12 +1,13 @@
--- What the tests of the rules 6 to 10 say, and that a graph that passes them is sound. Assumes nothing.
+-- What the tests of the rules 6 to 10 say, and that a graph that passes them is sound.
 use Prim.Native.Nat.{ℕ, zero, suc, _-_, _≤_, _<_}
 use native.Mathlib.Omega.{arith}
-use native.Mathlib.Decide.{ℕ-discrete}
+use native.Mathlib.Decide.{ℕ-discrete, decLe}
 use mathlib.Core.Path.{_≡_, sym, _∙_}
-use mathlib.Core.Logic.{_⊎_, inl, inr}
+use mathlib.Core.Logic.{_⊎_, inl, inr, ⊎-elim}
 use Rattle.paper.specs.declared.Loop.{Loop}
 use Rattle.paper.specs.Cases.{Case, inside}
-use Rattle.paper.specs.Graphs.{risesFrom, crosses, beside, returns, around, badEdge, badLoop, badEntry, badReturn, count, badCount}
+use Rattle.paper.specs.Graphs.{risesFrom, crosses, beside, returns, around, wrongEdge, wrongLoop, badEdge, badLoop, badEntry, badReturn, count, badCount}
+use Rattle.paper.specs.Known.{Shaped}
 use Rattle.paper.proofs.Least.{None}
 use Rattle.paper.proofs.Says.{Says, says-lt, says-le, says-eq, says-not, says-and, says-or, says-some, says-false, says-stable}
 use Rattle.paper.proofs.Meaning.{In, SoundGraph}
@@ -45,7 +46,7 @@ module _ (e : Case) where
       ⊎ ((e .nodes ≤ e .to i)
       ⊎ ((0 < i) × ¬ ((e .from (i - 1) < e .from i) ⊎ ((e .from (i - 1) ≡ e .from i) × (e .to (i - 1) < e .to i))))))
       (badEdge e i)
-  unfolding badEdge
+  unfolding badEdge wrongEdge
   edge-says i = says-or (says-le _ _) (says-or (says-le _ _) (says-and (says-lt _ _) (says-not (rises-says _ _ _ _))))
 
   abbrev pub BadLoop : ℕ → Type 0
@@ -58,7 +59,7 @@ module _ (e : Case) where
       ⊎ ((j : ℕ) × (j < i) × ((e .loop i .first ≤ e .loop j .last) × (e .loop j .last < e .loop i .last)))))))
 
   pub loop-says : (i : ℕ) → Says (BadLoop i) (badLoop e i)
-  unfolding badLoop
+  unfolding badLoop wrongLoop
   loop-says i =
       says-or (says-lt _ _)
       (says-or (says-le _ _)
@@ -95,7 +96,7 @@ module _ (e : Case) (kept : None (badLoop e) (e .loops)) where
       let n : ¬ (e .loop (suc j) .first ≤ e .loop j .first) = λ le. loop-kept (suc j) h (inr (inr (inr (inr (inl (omega arith, rw z le)))))) in
       omega arith
 
-  pub rises : (i j : ℕ) → i < j → j < e .loops → e .loop i .first < e .loop j .first
+  rises : (i j : ℕ) → i < j → j < e .loops → e .loop i .first < e .loop j .first
   rises i zero l h = absurd (omega arith)
   rises i (suc j) l h =
       elim (ℕ-discrete i j) [
@@ -103,58 +104,73 @@ module _ (e : Case) (kept : None (badLoop e) (e .loops)) where
         | no n ↦ omega (arith, rises i j (omega arith) (omega arith), next-rises j h)
       ]
 
-  pub nested : (i j : ℕ) → i < j → j < e .loops → e .loop j .first ≤ e .loop i .last → e .loop j .last ≤ e .loop i .last
+  nested : (i j : ℕ) → i < j → j < e .loops → e .loop j .first ≤ e .loop i .last → e .loop j .last ≤ e .loop i .last
   nested i j l h p = over (λ q. loop-kept j h (inr (inr (inr (inr (inr (i, l, (p, q))))))))
     where
       over : ¬ (e .loop i .last < e .loop j .last) → e .loop j .last ≤ e .loop i .last
       over n = omega arith
 
-  pub fits : (j : ℕ) → j < e .loops → (e .loop j .first ≤ e .loop j .last) × (e .loop j .last < e .nodes) × (1 ≤ e .loop j .bound)
+  fits : (j : ℕ) → j < e .loops → (e .loop j .first ≤ e .loop j .last) × (e .loop j .last < e .nodes) × (1 ≤ e .loop j .bound)
   fits j h = let n = loop-kept j h in all (λ p. n (inl p)) (λ p. n (inr (inl p))) (λ p. n (inr (inr (inl p))))
     where
       all : ¬ (e .loop j .last < e .loop j .first) → ¬ (e .nodes ≤ e .loop j .last) → ¬ (e .loop j .bound < 1) →
           (e .loop j .first ≤ e .loop j .last) × (e .loop j .last < e .nodes) × (1 ≤ e .loop j .bound)
       all a b c = (omega arith, omega arith, omega arith)
 
--- No edge, loop or node breaks one of the rules 6 to 10.
-pub record KeptGraph (e : Case) : Type 0 where
-  pub edges : None (badEdge e) (e .edges)
-  pub loops : None (badLoop e) (e .loops)
-  pub entries : None (badEntry e) (e .edges)
-  pub returns : None (badReturn e) (e .edges)
-  pub counts : None (badCount e) (e .nodes)
+-- No edge and no loop breaks one of the rules 6 and 7.
+module _ (e : Case) (edges : None (badEdge e) (e .edges)) (loops : None (badLoop e) (e .loops)) where
+  ends-at : (i : ℕ) → i < e .edges → (e .from i < e .nodes) × (e .to i < e .nodes)
+  ends-at i h = let n = says-false (edge-says e i) .0 (edges i h) in both (λ p. n (inl p)) (λ p. n (inr (inl p)))
+    where
+      both : ¬ (e .nodes ≤ e .from i) → ¬ (e .nodes ≤ e .to i) → (e .from i < e .nodes) × (e .to i < e .nodes)
+      both a b = (omega arith, omega arith)
 
-module _ (e : Case) (kept : KeptGraph e) where
+  climbs-at : (i : ℕ) → suc i < e .edges → e .from i ≤ e .from (suc i)
+  climbs-at i h =
+      let z : suc i - 1 ≡ i = omega arith in
+      let n = says-false (edge-says e (suc i)) .0 (edges (suc i) h) in
+      elim (decLe (e .from i) (e .from (suc i))) [
+        | yes l ↦ l
+        | no l ↦ absurd (n (inr (inr (omega arith, λ q. ⊎-elim (λ x. omega arith) (λ x. omega arith) (rw z at q)))))
+      ]
+
+  pub shaped : Shaped e
+  shaped = record { ends = ends-at; climbs = climbs-at; fits = fits e loops; rises = rises e loops; nested = nested e loops }
+
+-- Beyond that, no edge and no node breaks one of the rules 8 to 10.
+module _
+    (e : Case)
+    (shape : Shaped e)
+    (entries : None (badEntry e) (e .edges))
+    (returns : None (badReturn e) (e .edges))
+    (counts : None (badCount e) (e .nodes)) where
   -- edge i, which goes from u to v
   module _ (u v i : ℕ) (h : i < e .edges) (from : e .from i ≡ u) (to : e .to i ≡ v) where
-    ends-at : (u < e .nodes) × (v < e .nodes)
-    ends-at = let n = says-false (edge-says e i) .0 (kept .edges i h) in both (λ p. n (inl p)) (λ p. n (inr (inl p)))
-      where
-        both : ¬ (e .nodes ≤ e .from i) → ¬ (e .nodes ≤ e .to i) → (u < e .nodes) × (v < e .nodes)
-        both a b = (omega arith, omega arith)
+    ends-of : (u < e .nodes) × (v < e .nodes)
+    ends-of = (omega (arith, shape .ends i h), omega (arith, shape .ends i h))
 
     forward-at : u < v → (j : ℕ) → j < e .loops → In (e .loop j) v → ¬ In (e .loop j) u → v ≡ e .loop j .first
     forward-at lt j l iv nu =
-        let n = says-false (entry-says e i) .0 (kept .entries i h) in
+        let n = says-false (entry-says e i) .0 (entries i h) in
         says-stable (says-eq v (e .loop j .first)) λ ne.
         n (omega arith, (j, l, (rw to iv, (rw from nu, rw to ne))))
 
     back-at : v ≤ u → (j : ℕ) × (j < e .loops) × (v ≡ e .loop j .first) × In (e .loop j) u
     back-at le =
-        let n = says-false (return-says e i) .0 (kept .returns i h) in
+        let n = says-false (return-says e i) .0 (returns i h) in
         let r = says-stable (says-some (λ j. returns-says (e .loop j) (e .from i) (e .to i)) (e .loops)) (λ m. n (omega arith, m)) in
         (r .0, r .1, sym to ∙ r .2 .1, (omega (arith, r .2 .0), omega (arith, r .2 .0)))
 
   pub graph-sound : SoundGraph e
   graph-sound =
       record {
-        ends = λ u v x. ends-at u v (x .0) (x .1) (x .2) (x .3);
-        fits = fits e (kept .loops);
-        rises = rises e (kept .loops);
-        nested = nested e (kept .loops);
+        ends = λ u v x. ends-of u v (x .0) (x .1) (x .2) (x .3);
+        fits = shape .fits;
+        rises = shape .rises;
+        nested = shape .nested;
         forward = λ u v x. forward-at u v (x .0) (x .1) (x .2) (x .3);
         back = λ u v x. back-at u v (x .0) (x .1) (x .2) (x .3);
-        counts = λ v h. low v (says-false (count-says e v) .0 (kept .counts v h));
+        counts = λ v h. low v (says-false (count-says e v) .0 (counts v h));
       }
     where
       low : (v : ℕ) → ¬ (4294967295 < count e v) → count e v ≤ 4294967295

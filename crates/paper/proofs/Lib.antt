@@ -5,6 +5,8 @@ pub mod Tables
 pub mod Bits
 pub mod States
 pub mod Meaning
+pub mod RuleLaws
+pub mod Before
 pub mod GraphLaws
 pub mod RowLaws
 pub mod FactLaws

@@ -1,14 +1,14 @@
 -- No refusal has a number that stands for something else: 0 where nothing is refused, 0 and 1 for a step's hit and miss.
-use Prim.Native.Nat.{ℕ, suc, _≤_, _/_, _%_}
+use Prim.Native.Nat.{ℕ, zero, suc, _+_, _≤_, _/_, _%_}
 use native.Mathlib.Omega.{arith}
-use mathlib.Core.Path.{_≡_, refl, _∙_, ap}
+use mathlib.Core.Path.{_≡_, refl}
 use mathlib.Core.Bool.{Bool, true, false, cond, not}
 use mathlib.Core.List.{List, [], _∷_}
 use mathlib.Core.Option.{none}
 use lib.Dec.{eqb, ltb}
 use lib.ListN.{length}
-use borrow.Author.Tests.{not-true, eqb-false}
 use Rattle.paper.specs.declared.Trailer.{Trailer}
+use Rattle.paper.specs.declared.Previous.{Previous}
 use Rattle.paper.specs.declared.SetState.{SetState}
 use Rattle.paper.specs.declared.Address.{Address}
 use Rattle.paper.specs.declared.Block.{Block}
@@ -24,9 +24,11 @@ use Rattle.paper.specs.Machines.{emptySet, step, offered, setCount, lega
 use Rattle.paper.specs.Operations.{refusedStep, stepAnswer, lineSize, blockAnswer, setAnswer}
 use Rattle.paper.specs.Traces.{Run, refusedRun, tookRun, badAccess, marks, traceRun}
 use Rattle.paper.specs.Graphs.{badEdge, badLoop, badEntry, badReturn, badCount}
-use Rattle.paper.specs.Files.{endAt, trailerOf, badLetters, badCache, badNumbers, badOffsets, factPlace, caseOf}
-use Rattle.paper.specs.Verdicts.{refused, rule, ruleAt, graphRules, factRule, badFact, factRules, rulesTo10, verdict}
-use Rattle.paper.proofs.Least.{is-some, least-is}
+use Rattle.paper.specs.Cases.{Case, size, scopeOf}
+use Rattle.paper.specs.Facts.{nonePrevious, previousOf, badHead, badOrder, unfetched, badRowAt, badStepAt, badManyAt}
+use Rattle.paper.specs.Files.{endAt, trailerOf, badLetters, badCache, badNumbers, badOffsets, factsAt, factAt, factEnd, factPlace, caseOf, readCase}
+use Rattle.paper.specs.Rules.{refused, rule}
+use Rattle.paper.specs.Verdicts.{layoutRules, shapeRules, pathRules, countRules, graphRules, headRule, orderRule, fetchRule, rowRules, stepRules, manyRules, bodyRules, turnRules, turnsFrom, factRules, verdict}
 
 -- where something is refused, the number is at least `low`
 module _ {A : Type 0} (low : ℕ) (told : A → Told) where
@@ -46,46 +48,52 @@ module _ {A : Type 0} (low : ℕ) (told : A → Told) where
             absurd (omega arith);
       }
 
-one : (n : ℕ) (bad : Bool) {rest : Verdict} → Numbered 1 toldVerdict rest → Numbered 1 toldVerdict (rule (suc n) bad rest)
-one n bad p = numbered 1 toldVerdict bad (refused (suc n) 0) (omega arith) p
+-- a rule, whatever its place, and a chain of them
+one : (n place : ℕ) (bad : Bool) {rest : Verdict} → Numbered 1 toldVerdict rest → Numbered 1 toldVerdict (rule (suc n) place bad rest)
+one n place bad p = numbered 1 toldVerdict bad (refused (suc n) place) (omega arith) p
 
-each : (n : ℕ) (test : ℕ → Bool) (places : ℕ) {rest : Verdict} → Numbered 1 toldVerdict rest → Numbered 1 toldVerdict (ruleAt (suc n) test places rest)
-each n test places p = numbered 1 toldVerdict (some test places) (refused (suc n) (least test places)) (omega arith) p
+module _ (e : Case) where
+  graph-numbered : (rest : Verdict) → Numbered 1 toldVerdict rest → Numbered 1 toldVerdict (graphRules e rest)
+  unfolding shapeRules pathRules countRules
+  graph-numbered rest p =
+      one 5 _ (some (badEdge e) (e .edges))
+      (one 6 _ (some (badLoop e) (e .loops))
+      (one 7 _ (some (badEntry e) (e .edges)) (one 8 _ (some (badReturn e) (e .edges)) (one 9 _ (some (badCount e) (e .nodes)) p))))
 
 module _ (f : List ℕ) (t : Trailer) where
-  graph-numbered : (rest : Verdict) → Numbered 1 toldVerdict rest → Numbered 1 toldVerdict (graphRules f t rest)
-  unfolding graphRules
-  graph-numbered rest p =
+  turn-numbered : (i : ℕ) (previous : Previous) (p : ℕ) (rest : Verdict) → Numbered 1 toldVerdict rest → Numbered 1 toldVerdict (turnRules f t i previous p rest)
+  unfolding turnRules headRule orderRule bodyRules fetchRule rowRules stepRules manyRules
+  turn-numbered i previous p rest h =
       let e = caseOf f t in
-      each 5 (badEdge e) (t .edges)
-      (each 6 (badLoop e) (t .loops) (each 7 (badEntry e) (t .edges) (each 8 (badReturn e) (t .edges) (each 9 (badCount e) (t .nodes) p))))
+      let s = factAt f p in
+      one 10 i (ltb (endAt f) (p + 6))
+      (one 11 i (badHead e s)
+      (one 12 i (badOrder e previous s)
+      (one 13 i (unfetched e s)
+      (one 14 i (ltb (endAt f) (factEnd f t p))
+      (one 15 i (some (badRowAt e s) (size (scopeOf e s)))
+      (one 16 i (some (badStepAt e s) (e .edges)) (one 17 i (some (badManyAt e s) (size (scopeOf e s))) h)))))))
 
-  -- the fact that is named breaks a rule
-  broken : some (badFact f t) (t .facts) ≡ true → 1 ≤ factRule f t (least (badFact f t) (t .facts))
-  unfolding badFact
-  broken h =
-      let w = is-some (badFact f t) (t .facts) h in
-      let n : ¬ (factRule f t (least (badFact f t) (t .facts)) ≡ 0) = eqb-false _ _ (not-true _ (ap (badFact f t) (least-is (badFact f t) (t .facts) w) ∙ w .holds)) in
-      omega arith
+  turns-numbered : (n i : ℕ) (previous : Previous) (p : ℕ) (rest : Verdict) → Numbered 1 toldVerdict rest → Numbered 1 toldVerdict (turnsFrom f t n i previous p rest)
+  unfolding turnsFrom
+  turns-numbered zero i previous p rest h = h
+  turns-numbered (suc n) i previous p rest h =
+      turn-numbered i previous p _ (turns-numbered n (suc i) (previousOf (caseOf f t) (factAt f p)) (factEnd f t p) rest h)
 
-  named : (b : Bool) → some (badFact f t) (t .facts) ≡ b → (place : ℕ) (rest : Verdict) → Numbered 1 toldVerdict rest →
-      Numbered 1 toldVerdict (cond b (refused (factRule f t (least (badFact f t) (t .facts))) place) rest)
-  named true h place rest p = record { refused = λ e. broken h }
-  named false h place rest p = p
-
-  facts-numbered : Numbered 1 toldVerdict (factRules f t)
+  facts-numbered : (rest : Verdict) → Numbered 1 toldVerdict rest → Numbered 1 toldVerdict (factRules f t rest)
   unfolding factRules
-  facts-numbered = named _ refl _ _ (one 18 (ltb (factPlace f t (t .facts)) (endAt f)) (plain 1 toldVerdict Accepted [] refl))
+  facts-numbered rest h = turns-numbered (t .facts) 0 nonePrevious (factsAt t) _ (one 18 0 (ltb (factPlace f t (t .facts)) (endAt f)) h)
 
 pub verdict-numbered : (f : List ℕ) (room : ℕ) → Numbered 1 toldVerdict (verdict f room)
-unfolding verdict rulesTo10
+unfolding verdict layoutRules
 verdict-numbered f room =
     let t = trailerOf f in
-    one 19 (ltb room 321)
-    (one 0 (ltb (length f) 32)
-    (one 1 (badLetters f)
-    (one 2 (badCache t)
-    (one 3 (badNumbers t) (one 4 (badOffsets f t) (graph-numbered f t (factRules f t) (facts-numbered f t)))))))
+    one 19 0 (ltb room 321)
+    (one 0 0 (ltb (length f) 32)
+    (one 1 0 (badLetters f)
+    (one 2 0 (badCache t)
+    (one 3 0 (badNumbers t)
+    (one 4 0 (badOffsets f t) (graph-numbered (readCase f) _ (facts-numbered f t Accepted (plain 1 toldVerdict Accepted [] refl))))))))
 
 abbrev pub runTold : Run → Told
 runTold r = toldTrace (r .answer)

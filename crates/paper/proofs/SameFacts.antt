@@ -6,14 +6,17 @@ use mathlib.Core.Logic.{_≢_}
 use mathlib.Core.Bool.{Bool, true, false, cond, not, _&&_}
 use lib.Dec.{eqb, ltb}
 use Rattle.paper.specs.declared.Loop.{Loop}
+use Rattle.paper.specs.declared.Verdict.{Verdict}
 use Rattle.paper.specs.Lists.{some}
 use Rattle.paper.specs.Machines.{none}
 use Rattle.paper.specs.Cases.{Row, Fact, Case, inside, size, scopeOf, rowOf, sameSet, fetches}
-use Rattle.paper.specs.Facts.{held, holds, badHead, unfetched, badSlot, badRow, badRowAt, lacks, breaks, badStepAt, badManyAt, evidenceRule}
+use Rattle.paper.specs.Known.{Shaped}
+use Rattle.paper.specs.Verdicts.{rowRules, stepRules, manyRules, evidenceRules}
+use Rattle.paper.specs.Facts.{held, holds, wrongHead, badHead, unfetched, badSlot, badRow, badRowAt, lacks, breaks, badStepAt, badManyAt}
 use Rattle.paper.proofs.Least.{some-same}
 use Rattle.paper.proofs.Says.{says-true}
 use Rattle.paper.proofs.Meaning.{In}
-use Rattle.paper.proofs.GraphLaws.{KeptGraph, inside-says}
+use Rattle.paper.proofs.GraphLaws.{inside-says}
 use Rattle.paper.proofs.RowLaws.{held-low}
 use Rattle.paper.proofs.SameGraphs.{SameGraph, range-same, range-low}
 
@@ -41,7 +44,7 @@ holds-same r s w x =
 module _ (e d : Case) (s : SameGraph e d) (t u : Fact) (f : SameFact (size (scopeOf e t)) t u) where
   -- 12
   pub head-same : badHead e t ≡ badHead d u
-  unfolding badHead
+  unfolding badHead wrongHead
   head-same = rw (s .loops, s .ways, f .scope, f .block, f .limit) refl
 
   -- 16
@@ -70,7 +73,7 @@ module _ (e d : Case) (s : SameGraph e d) (t u : Fact) (f : SameFact (size (scop
     unfolding breaks
     breaks-same = rw (lacks-same, a .number, b .number, f .block) refl
 
-  module _ (k : KeptGraph e) (some-node : 1 ≤ e .nodes) (there : t .scope ≢ none → t .scope < e .loops) where
+  module _ (k : Shaped e) (some-node : 1 ≤ e .nodes) (there : t .scope ≢ none → t .scope < e .loops) where
     pub scope-same : scopeOf e t ≡ scopeOf d u
     scope-same = rw (← f .scope) (range-same e d s (t .scope) there)
 
@@ -116,9 +119,9 @@ module _ (e d : Case) (s : SameGraph e d) (t u : Fact) (f : SameFact (size (scop
     unfolding badRowAt
     row-at j l = row-same (t .row j) (u .row j) (f .rows j l)
 
-    pub evidence-same : evidenceRule e t ≡ evidenceRule d u
-    unfolding evidenceRule
-    evidence-same =
+    pub evidence-same : (i : ℕ) (rest : Verdict) → evidenceRules e i t rest ≡ evidenceRules d i u rest
+    unfolding rowRules stepRules manyRules
+    evidence-same i rest =
         let rows : some (badRowAt e t) (size (scopeOf e t)) ≡ some (badRowAt d u) (size (scopeOf d u))
         = some-same _ _ (size (scopeOf e t)) row-at ∙ ap (λ (l : Loop). some (badRowAt d u) (size l)) scope-same in
         let steps : some (badStepAt e t) (e .edges) ≡ some (badStepAt d u) (d .edges)

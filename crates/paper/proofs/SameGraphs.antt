@@ -4,17 +4,25 @@ use native.Mathlib.Omega.{arith}
 use native.Mathlib.Decide.{ℕ-discrete}
 use mathlib.Core.Path.{_≡_, refl, sym, _∙_, ap}
 use mathlib.Core.Logic.{_≢_}
-use mathlib.Core.Bool.{cond}
+use mathlib.Core.Bool.{Bool, cond}
 use borrow.Author.Tests.{eq-eqb, ne-eqb}
 use lib.Dec.{ltb}
-use Rattle.paper.specs.Lists.{some, productTo}
+use Rattle.paper.specs.declared.Verdict.{Verdict}
+use Rattle.paper.specs.Lists.{least, some, productTo}
 use Rattle.paper.specs.Machines.{none}
 use Rattle.paper.specs.Cases.{Case, inside, rangeOf}
-use Rattle.paper.specs.Graphs.{crosses, beside, returns, badEdge, badLoop, badEntry, badReturn, count, badCount}
-use Rattle.paper.proofs.Least.{some-same}
+use Rattle.paper.specs.Known.{Shaped}
+use Rattle.paper.specs.Rules.{ruleAt}
+use Rattle.paper.specs.Verdicts.{shapeRules, pathRules, countRules, graphRules}
+use Rattle.paper.specs.Graphs.{wrongEdge, wrongLoop, crosses, beside, returns, badEdge, badLoop, badEntry, badReturn, count, badCount}
+use Rattle.paper.proofs.Least.{least-same, some-same}
 use Rattle.paper.proofs.Sums.{product-same}
 use Rattle.paper.proofs.Meaning.{In}
-use Rattle.paper.proofs.GraphLaws.{KeptGraph, fits}
+
+-- a rule whose tests agree, below numbers that are the same
+rule-at-same : (number : ℕ) {p q : ℕ → Bool} {n m : ℕ} {a b : Verdict} → n ≡ m → ((i : ℕ) → i < n → p i ≡ q i) → a ≡ b → ruleAt number p n a ≡ ruleAt number q m b
+rule-at-same number {p} {q} {n} {m} {a} {b} e h r =
+    rw (some-same p q n h, least-same p q n h, r) (ap (λ (k : ℕ). ruleAt number q k b) e)
 
 -- the same cache, nodes, edges and loops, whatever the facts are
 pub record SameGraph (e d : Case) : Type 0 where
@@ -32,14 +40,14 @@ pub record SameGraph (e d : Case) : Type 0 where
 module _ (e d : Case) (s : SameGraph e d) where
   -- 6
   edge-same : (i : ℕ) → i < e .edges → badEdge e i ≡ badEdge d i
-  unfolding badEdge
+  unfolding badEdge wrongEdge
   edge-same i l =
       let m : i - 1 < e .edges = omega arith in
       rw (s .nodes, s .from i l, s .to i l, s .from (i - 1) m, s .to (i - 1) m) refl
 
   -- 7
   loop-same : (i : ℕ) → i < e .loops → badLoop e i ≡ badLoop d i
-  unfolding badLoop
+  unfolding badLoop wrongLoop
   loop-same i l =
       let m : i - 1 < e .loops = omega arith in
       let c : some (λ j. crosses (e .loop j) (e .loop i)) i ≡ some (λ j. crosses (d .loop j) (d .loop i)) i
@@ -69,18 +77,17 @@ module _ (e d : Case) (s : SameGraph e d) where
       product-same _ _ (e .loops) (λ j h. rw (s .loop j h) refl)
       ∙ ap (λ (n : ℕ). productTo (λ j. cond (inside (d .loop j) v) (d .loop j .bound) 1) n) (s .loops)
 
-  pub graph-same : KeptGraph e → KeptGraph d
+  bad-count-same : (v : ℕ) → badCount e v ≡ badCount d v
   unfolding badCount
-  graph-same k =
-      record {
-        edges = λ i l. let m : i < e .edges = omega (arith, s .edges) in sym (edge-same i m) ∙ k .edges i m;
-        loops = λ i l. let m : i < e .loops = omega (arith, s .loops) in sym (loop-same i m) ∙ k .loops i m;
-        entries = λ i l. let m : i < e .edges = omega (arith, s .edges) in sym (entry-same i m) ∙ k .entries i m;
-        returns = λ i l. let m : i < e .edges = omega (arith, s .edges) in sym (return-same i m) ∙ k .returns i m;
-        counts = λ v l.
-            let m : v < e .nodes = omega (arith, s .nodes) in
-            ap (λ (n : ℕ). ltb 4294967295 n) (sym (count-same v)) ∙ k .counts v m;
-      }
+  bad-count-same v = ap (λ (n : ℕ). ltb 4294967295 n) (count-same v)
+
+  -- so the graph's chain says the same of both
+  pub graph-same : (rest : Verdict) → graphRules e rest ≡ graphRules d rest
+  unfolding shapeRules pathRules countRules
+  graph-same rest =
+      rule-at-same 6 (s .edges) edge-same
+      (rule-at-same 7 (s .loops) loop-same
+      (rule-at-same 8 (s .edges) entry-same (rule-at-same 9 (s .edges) return-same (rule-at-same 10 (s .nodes) (λ v l. bad-count-same v) refl))))
 
   -- a range that there is
   module _ (w : ℕ) (there : w ≢ none → w < e .loops) where
@@ -93,10 +100,10 @@ module _ (e d : Case) (s : SameGraph e d) where
         ]
 
 -- the nodes of a range are nodes of the graph
-pub range-low : (e : Case) → KeptGraph e → 1 ≤ e .nodes → (w : ℕ) → (w ≢ none → w < e .loops) → (v : ℕ) → In (rangeOf (e .nodes) (e .loop) w) v → v < e .nodes
+pub range-low : (e : Case) → Shaped e → 1 ≤ e .nodes → (w : ℕ) → (w ≢ none → w < e .loops) → (v : ℕ) → In (rangeOf (e .nodes) (e .loop) w) v → v < e .nodes
 unfolding rangeOf
 range-low e k h w there v =
     elim (ℕ-discrete w none) [
       | yes p ↦ rw (eq-eqb _ _ p) (λ i. omega arith)
-      | no n ↦ rw (ne-eqb _ _ n) (λ i. omega (arith, fits e (k .loops) w (there n)))
+      | no n ↦ rw (ne-eqb _ _ n) (λ i. omega (arith, k .fits w (there n)))
     ]

@@ -1,4 +1,4 @@
--- A test and the statement that it decides. Assumes nothing.
+-- A test and the statement that it decides.
 use Prim.Native.Nat.{ℕ, _≤_, _<_}
 use native.Mathlib.Omega.{arith}
 use native.Mathlib.Decide.{ℕ-discrete, decLe, decLt}
@@ -14,6 +14,11 @@ use Rattle.paper.proofs.Least.{none-some, is-some}
 pub data Says (P : Type 0) : Bool → Type 0 where
   holds : P → Says P true
   fails : ¬ P → Says P false
+
+-- a test that is itself a fact
+pub says-bool : (b : Bool) → Says (b ≡ true) b
+says-bool true = holds refl
+says-bool false = fails (λ e. true≢false (sym e))
 
 pub says-lt : (a b : ℕ) → Says (a < b) (ltb a b)
 says-lt a b = elim (decLt a b) [ yes h ↦ rw (lt-ltb a b h) (holds h) | no n ↦ rw (le-ltb a b (omega arith)) (fails n) ]

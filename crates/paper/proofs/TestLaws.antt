@@ -1,10 +1,9 @@
--- What the tests say that are made of others: of a fact's rows, edges and order, of nodes and fetches. Assumes nothing.
-use Prim.Native.Nat.{ℕ, _-_, _%_, _≤_, _<_}
+-- What the tests say that are made of others: of a fact's rows and edges, of nodes and fetches.
+use Prim.Native.Nat.{ℕ, _%_, _≤_, _<_}
 use mathlib.Core.Path.{_≡_}
-use mathlib.Core.Logic.{_≢_, _⊎_, _↔_}
+use mathlib.Core.Logic.{_≢_, _↔_}
 use mathlib.Core.Bool.{Bool, false}
 use mathlib.Core.Option.{some}
-use mathlib.Core.List.{List}
 use Rattle.paper.specs.declared.Loop.{Loop}
 use Rattle.paper.specs.declared.Trailer.{Trailer}
 use Rattle.paper.specs.Machines.{none}
@@ -13,14 +12,12 @@ use Rattle.paper.specs.Walks.{outside}
 use Rattle.paper.specs.Runs.{Fetch, ofFact, ofSet}
 use Rattle.paper.specs.Facts.{badRowAt, badStepAt}
 use Rattle.paper.specs.Bounds.{covers, lives, uncovered}
-use Rattle.paper.specs.Files.{badCache, caseOf}
-use Rattle.paper.specs.Verdicts.{badOrderAt, factRule, badFact}
-use Rattle.paper.proofs.Says.{Says, says-lt, says-eq, says-not, says-and, says-some}
+use Rattle.paper.specs.Files.{badCache}
+use Rattle.paper.proofs.Says.{Says, says-eq, says-not, says-and, says-some}
 use Rattle.paper.proofs.States.{Offered, says-range}
 use Rattle.paper.proofs.Meaning.{In, SoundRow}
 use Rattle.paper.proofs.GraphLaws.{inside-says}
 use Rattle.paper.proofs.RowLaws.{Breaks, breaks-says, row-law}
-use Rattle.paper.proofs.FileLaws.{order-says}
 
 -- 3
 pub cache-says : (t : Trailer) → Says (¬ (Offered (t .policy) (t .ways) × ((0 < t .sets) × (t .sets ≤ 64)))) (badCache t)
@@ -75,20 +72,3 @@ module _ (e : Case) where
     step-says i =
         says-and (says-and (inside-says (scopeOf e t) (e .from i)) (inside-says (scopeOf e t) (e .to i)))
         (breaks-says e t (e .block (e .from i)) (rowOf e t (e .from i)) (rowOf e t (e .to i)))
-
-module _ (f : List ℕ) (t : Trailer) where
-  -- 13, for fact i
-  pub order-at-says : (i : ℕ) →
-      Says
-      ((0 < i)
-      × ((caseOf f t .fact i .block < caseOf f t .fact (i - 1) .block)
-      ⊎ ((caseOf f t .fact i .block ≡ caseOf f t .fact (i - 1) .block)
-      × (scopeOf (caseOf f t) (caseOf f t .fact i) .first ≤ scopeOf (caseOf f t) (caseOf f t .fact (i - 1)) .last))))
-      (badOrderAt f t i)
-  unfolding badOrderAt
-  order-at-says i = says-and (says-lt 0 i) (order-says (caseOf f t) (caseOf f t .fact (i - 1)) (caseOf f t .fact i))
-
-  -- 11 to 18, for fact i
-  pub fact-says : (i : ℕ) → Says (¬ (factRule f t i ≡ 0)) (badFact f t i)
-  unfolding badFact
-  fact-says i = says-not (says-eq _ _)

@@ -1,141 +1,169 @@
--- What an accepted file says of the case that it holds. Assumes nothing.
-use Prim.Native.Nat.{ℕ, zero, suc, _+_, _-_, _≤_, _<_}
+-- What each chain of the verdict says of a file that passes it, and that it hands on to what follows.
+use Prim.Native.Nat.{ℕ, zero, suc, _+_, _≤_, _<_}
 use native.Mathlib.Omega.{arith}
-use mathlib.Core.Path.{_≡_, refl, sym, _∙_, ap}
+use native.Mathlib.Decide.{ℕ-discrete}
+use mathlib.Core.Path.{_≡_}
 use mathlib.Core.List.{List}
-use mathlib.Core.Logic.{_⊎_, inl, inr}
-use mathlib.Core.Bool.{Bool, true, false, cond, not}
 use lib.ListN.{length}
 use lib.Dec.{ltb}
-use borrow.Author.Tests.{ltb-false, eqb-true, not-false}
-use Rattle.paper.specs.declared.Trailer.{Trailer}
+use borrow.Author.Tests.{ltb-false, not-false}
 use Rattle.paper.specs.declared.Refusal.{Refusal}
+use Rattle.paper.specs.declared.Trailer.{Trailer}
+use Rattle.paper.specs.declared.Previous.{Previous}
 use Rattle.paper.specs.declared.Verdict.{Verdict}
 use Rattle.paper.specs.declared.Verdict.the-variants.{Accepted, Refused}
-use Rattle.paper.specs.Lists.{some, least}
-use Rattle.paper.specs.Machines.{inRange}
-use Rattle.paper.specs.Cases.{Case}
-use Rattle.paper.specs.Facts.{evidenceRule}
-use Rattle.paper.specs.Files.{endAt, trailerOf, badLetters, badCache, badNumbers, badOffsets, factsAt, factEnd, factPlace, caseOf, readCase}
-use Rattle.paper.specs.Verdicts.{refused, rule, ruleAt, graphRules, badOrderAt, factRule, badFact, factRules, rulesTo10, verdict}
-use Rattle.paper.proofs.Least.{None, none-some}
-use Rattle.paper.proofs.Says.{Says, says-lt, says-or, says-false}
+use Rattle.paper.specs.Lists.{some}
+use Rattle.paper.specs.Cases.{Fact, Case, size, scopeOf}
+use Rattle.paper.specs.Graphs.{badEdge, badLoop, badEntry, badReturn, badCount}
+use Rattle.paper.specs.Facts.{previousOf, badHead, badOrder, unfetched, badRowAt, badStepAt, badManyAt}
+use Rattle.paper.specs.Files.{endAt, trailerOf, badLetters, badCache, badNumbers, badOffsets, factAt, factEnd, factPlace, caseOf, readCase}
+use Rattle.paper.specs.Known.{Laid, Shaped}
+use Rattle.paper.specs.Verdicts.{layoutRules, shapeRules, pathRules, countRules, graphRules, headRule, orderRule, fetchRule, rowRules, stepRules, manyRules, evidenceRules, bodyRules, turnRules, turnsFrom, factRules, fileVerdict, verdict}
+use Rattle.paper.proofs.Least.{none-some}
+use Rattle.paper.proofs.RuleLaws.{past, Hands, hands-rule, hands-then, accepted-on, refused-on}
 use Rattle.paper.proofs.Meaning.{SoundGraph, SoundFact, Sound}
-use Rattle.paper.proofs.GraphLaws.{KeptGraph, graph-sound}
-use Rattle.paper.proofs.FactLaws.{pass, head-sound, fetched, evidence-law}
-
-never : (r : Refusal) → Refused r ≡ Accepted → ⊥
-never r h =
-    let z : _≡_ {A = ℕ} 0 1 = cc in
-    omega arith
-
--- a file that gets past a rule does not break it
-pub past : (b : Bool) (number place : ℕ) (rest : Verdict) → cond b (refused number place) rest ≡ Accepted → (b ≡ false) × (rest ≡ Accepted)
-past true number place rest h = absurd (never _ h)
-past false number place rest h = (refl, h)
-
-module _ (f : List ℕ) (t : Trailer) where
-  -- rules 6 to 10
-  pub graph-kept : (rest : Verdict) → graphRules f t rest ≡ Accepted → KeptGraph (caseOf f t) × (rest ≡ Accepted)
-  unfolding graphRules caseOf
-  graph-kept rest h =
-      let a = past _ 6 _ _ h in
-      let b = past _ 7 _ _ (a .1) in
-      let c = past _ 8 _ _ (b .1) in
-      let d = past _ 9 _ _ (c .1) in
-      let g = past _ 10 _ _ (d .1) in (
-        record {
-          edges = none-some _ _ (a .0);
-          loops = none-some _ _ (b .0);
-          entries = none-some _ _ (c .0);
-          returns = none-some _ _ (d .0);
-          counts = none-some _ _ (g .0);
-        },
-        g .1,
-      )
-
-  -- rules 11 to 18, for fact i
-  pub record KeptFact (i : ℕ) : Type 0 where
-    pub room : factEnd f t (factPlace f t i) ≤ endAt f
-    pub sound : SoundFact (caseOf f t) (caseOf f t .fact i)
-
-  pub fact-kept : (i : ℕ) → factRule f t i ≡ 0 → KeptFact i
-  unfolding factRule
-  fact-kept i h =
-      let a = pass (ltb (endAt f) (factPlace f t i + 6)) 10 _ h in
-      let b = pass _ 11 _ (a .1) in
-      let c = pass (badOrderAt f t i) 12 _ (b .1) in
-      let d = pass _ 13 _ (c .1) in
-      let g = pass _ 14 _ (d .1) in
-      record {
-        room = ltb-false _ _ (g .0);
-        sound =
-            record {
-              head = head-sound (caseOf f t) (caseOf f t .fact i) (b .0);
-              fetched = fetched (caseOf f t) (caseOf f t .fact i) (d .0);
-              evidence = evidence-law (caseOf f t) (caseOf f t .fact i) .0 (g .1);
-            };
-      }
-
-  pub facts-kept : factRules f t ≡ Accepted → (i : ℕ) → i < t .facts → KeptFact i
-  unfolding factRules badFact
-  facts-kept h i l = fact-kept i (eqb-true _ _ (not-false _ (none-some _ _ (past _ _ _ _ h .0) i l)))
-
--- 4, as a proposition
-pub numbers-says : (t : Trailer) → Says ((t .nodes < 1) ⊎ ((1024 < t .nodes) ⊎ ((4096 < t .edges) ⊎ ((64 < t .loops) ⊎ (256 < t .facts))))) (badNumbers t)
-unfolding badNumbers
-numbers-says t = says-or (says-lt _ _) (says-or (says-lt _ _) (says-or (says-lt _ _) (says-or (says-lt _ _) (says-lt _ _))))
-
-pub record InNumbers (t : Trailer) : Type 0 where
-  pub nodes-low : 1 ≤ t .nodes
-  pub nodes : t .nodes ≤ 1024
-  pub edges : t .edges ≤ 4096
-  pub loops : t .loops ≤ 64
-  pub facts : t .facts ≤ 256
-
-pub in-numbers : (t : Trailer) → badNumbers t ≡ false → InNumbers t
-in-numbers t h =
-    let n = says-false (numbers-says t) .0 h in
-    record {
-      nodes-low = let m : ¬ (t .nodes < 1) = λ p. n (inl p) in omega arith;
-      nodes = let m : ¬ (1024 < t .nodes) = λ p. n (inr (inl p)) in omega arith;
-      edges = let m : ¬ (4096 < t .edges) = λ p. n (inr (inr (inl p))) in omega arith;
-      loops = let m : ¬ (64 < t .loops) = λ p. n (inr (inr (inr (inl p)))) in omega arith;
-      facts = let m : ¬ (256 < t .facts) = λ p. n (inr (inr (inr (inr p)))) in omega arith;
-    }
-
--- rules 1 to 5
-pub record KeptLayout (f : List ℕ) (t : Trailer) : Type 0 where
-  pub long : 32 ≤ length f
-  pub letters : badLetters f ≡ false
-  pub cache : inRange (t .policy) (t .ways) (t .sets) ≡ true
-  pub numbers : badNumbers t ≡ false
-  pub offsets : badOffsets f t ≡ false
+use Rattle.paper.proofs.GraphLaws.{shaped, graph-sound}
+use Rattle.paper.proofs.FactLaws.{head-sound, fetched, evidence-kept}
+use Rattle.paper.proofs.FileLaws.{laid}
 
 module _ (f : List ℕ) where
-  -- rules 1 to 10
-  pub ten-kept : (rest : Verdict) → rulesTo10 f rest ≡ Accepted → KeptLayout f (trailerOf f) × KeptGraph (readCase f) × (rest ≡ Accepted)
-  unfolding rulesTo10 badCache
-  ten-kept rest h =
-      let a = past _ 1 _ _ h in
-      let b = past _ 2 _ _ (a .1) in
-      let c = past _ 3 _ _ (b .1) in
-      let d = past _ 4 _ _ (c .1) in
-      let g = past _ 5 _ _ (d .1) in
-      let k = graph-kept f (trailerOf f) rest (g .1) in (
-        record { long = ltb-false _ _ (a .0); letters = b .0; cache = not-false _ (c .0); numbers = d .0; offsets = g .0 },
-        k .0,
-        k .1,
+  pub layout-kept : (rest : Verdict) → layoutRules f rest ≡ Accepted → Laid f (trailerOf f) × (rest ≡ Accepted)
+  unfolding layoutRules badCache
+  layout-kept rest h =
+      let a = past 1 0 (ltb (length f) 32) _ h in
+      let b = past 2 0 (badLetters f) _ (a .1) in
+      let c = past 3 0 _ _ (b .1) in
+      let d = past 4 0 _ _ (c .1) in
+      let g = past 5 0 _ _ (d .1) in
+      (laid f (trailerOf f) (ltb-false _ _ (a .0)) (not-false _ (c .0)) (d .0) (g .0), g .1)
+
+  pub hands-layout : Hands (layoutRules f)
+  unfolding layoutRules
+  hands-layout =
+      hands-then _ _ (hands-rule 1 0 (ltb (length f) 32))
+      (hands-then _ _ (hands-rule 2 0 (badLetters f))
+      (hands-then _ _ (hands-rule 3 0 (badCache (trailerOf f)))
+      (hands-then _ _ (hands-rule 4 0 (badNumbers (trailerOf f))) (hands-rule 5 0 (badOffsets f (trailerOf f))))))
+
+module _ (e : Case) where
+  pub shape-kept : (rest : Verdict) → shapeRules e rest ≡ Accepted → Shaped e × (rest ≡ Accepted)
+  unfolding shapeRules
+  shape-kept rest h =
+      let a = past 6 _ _ _ h in
+      let b = past 7 _ _ _ (a .1) in
+      (shaped e (none-some _ _ (a .0)) (none-some _ _ (b .0)), b .1)
+
+  pub graph-kept : (rest : Verdict) → graphRules e rest ≡ Accepted → Shaped e × SoundGraph e × (rest ≡ Accepted)
+  unfolding pathRules countRules
+  graph-kept rest h =
+      let s = shape-kept _ h in
+      let c = past 8 _ _ _ (s .1) in
+      let d = past 9 _ _ _ (c .1) in
+      let g = past 10 _ _ _ (d .1) in
+      (s .0, graph-sound e (s .0) (none-some _ _ (c .0)) (none-some _ _ (d .0)) (none-some _ _ (g .0)), g .1)
+
+  pub hands-shape : Hands (shapeRules e)
+  unfolding shapeRules
+  hands-shape = hands-then _ _ (hands-rule 6 _ (some (badEdge e) (e .edges))) (hands-rule 7 _ (some (badLoop e) (e .loops)))
+
+  pub hands-paths : Hands (pathRules e)
+  unfolding pathRules
+  hands-paths = hands-then _ _ (hands-rule 8 _ (some (badEntry e) (e .edges))) (hands-rule 9 _ (some (badReturn e) (e .edges)))
+
+  pub hands-counts : Hands (countRules e)
+  unfolding countRules
+  hands-counts = hands-rule 10 _ (some (badCount e) (e .nodes))
+
+  pub hands-graph : Hands (graphRules e)
+  hands-graph = hands-then _ _ hands-shape (hands-then _ _ hands-paths hands-counts)
+
+  pub hands-evidence : (i : ℕ) (t : Fact) → Hands (evidenceRules e i t)
+  unfolding rowRules stepRules manyRules
+  hands-evidence i t =
+      hands-then _ _ (hands-rule 16 i (some (badRowAt e t) (size (scopeOf e t))))
+      (hands-then _ _ (hands-rule 17 i (some (badStepAt e t) (e .edges))) (hands-rule 18 i (some (badManyAt e t) (size (scopeOf e t)))))
+
+module _ (f : List ℕ) (t : Trailer) where
+  -- The fact that stands at p passes its turn.
+  pub record KeptFact (p : ℕ) : Type 0 where
+    pub room : factEnd f t p ≤ endAt f
+    pub sound : SoundFact (caseOf f t) (factAt f p)
+
+  pub turn-kept : (i : ℕ) (previous : Previous) (p : ℕ) (rest : Verdict) → turnRules f t i previous p rest ≡ Accepted → KeptFact p × (rest ≡ Accepted)
+  unfolding turnRules headRule orderRule bodyRules fetchRule
+  turn-kept i previous p rest h =
+      let a = past 11 i (ltb (endAt f) (p + 6)) _ h in
+      let b = past 12 i (badHead (caseOf f t) (factAt f p)) _ (a .1) in
+      let c = past 13 i (badOrder (caseOf f t) previous (factAt f p)) _ (b .1) in
+      let d = past 14 i (unfetched (caseOf f t) (factAt f p)) _ (c .1) in
+      let g = past 15 i (ltb (endAt f) (factEnd f t p)) _ (d .1) in
+      let v = evidence-kept (caseOf f t) (factAt f p) i rest (g .1) in (
+        record {
+          room = ltb-false _ _ (g .0);
+          sound =
+              record {
+                head = head-sound (caseOf f t) (factAt f p) (b .0);
+                fetched = fetched (caseOf f t) (factAt f p) (d .0);
+                evidence = v .0;
+              };
+        },
+        v .1,
       )
 
-  -- An accepted file holds a sound case.
-  pub accepted-sound : (room : ℕ) → verdict f room ≡ Accepted → Sound (readCase f)
-  unfolding verdict caseOf
-  accepted-sound room h =
-      let k = ten-kept _ (past (ltb room 321) 20 0 _ h .1) in
+  pub turns-kept : (n i : ℕ) (previous : Previous) (rest : Verdict) → turnsFrom f t n i previous (factPlace f t i) rest ≡ Accepted →
+      ((k : ℕ) → i ≤ k → k < i + n → KeptFact (factPlace f t k)) × (rest ≡ Accepted)
+  unfolding turnsFrom factPlace
+  turns-kept zero i previous rest h = (λ k l q. absurd (omega arith), h)
+  turns-kept (suc n) i previous rest h =
+      let a = turn-kept i previous (factPlace f t i) _ h in
+      let b = turns-kept n (suc i) _ rest (a .1) in (
+        λ k l q. elim (ℕ-discrete k i) [ yes e ↦ rw e (a .0) | no e ↦ b .0 k (omega arith) (omega arith) ],
+        b .1,
+      )
+
+  pub facts-kept : (rest : Verdict) → factRules f t rest ≡ Accepted → (i : ℕ) → i < t .facts → KeptFact (factPlace f t i)
+  unfolding factRules factPlace
+  facts-kept rest h i l = turns-kept (t .facts) 0 _ _ h .0 i (omega arith) (omega arith)
+
+  pub hands-body : (i p : ℕ) → Hands (bodyRules f t i p)
+  unfolding bodyRules fetchRule
+  hands-body i p =
+      hands-then _ _ (hands-rule 14 i (unfetched (caseOf f t) (factAt f p)))
+      (hands-then _ _ (hands-rule 15 i (ltb (endAt f) (factEnd f t p))) (hands-evidence (caseOf f t) i (factAt f p)))
+
+  pub hands-turn : (i : ℕ) (previous : Previous) (p : ℕ) → Hands (turnRules f t i previous p)
+  unfolding turnRules headRule orderRule
+  hands-turn i previous p =
+      hands-then _ _ (hands-rule 11 i (ltb (endAt f) (p + 6)))
+      (hands-then _ _ (hands-rule 12 i (badHead (caseOf f t) (factAt f p)))
+      (hands-then _ _ (hands-rule 13 i (badOrder (caseOf f t) previous (factAt f p))) (hands-body i p)))
+
+  -- the verdict of one turn is v: where it accepts it is the next fact's turn
+  module _ (n i : ℕ) (previous : Previous) (p : ℕ) (rest v : Verdict) (a : v ≡ turnRules f t i previous p Accepted) where
+    pub turns-on : v ≡ Accepted →
+        turnsFrom f t (suc n) i previous p rest ≡ turnsFrom f t n (suc i) (previousOf (caseOf f t) (factAt f p)) (factEnd f t p) rest
+    unfolding turnsFrom
+    turns-on e = accepted-on (turnRules f t i previous p) (hands-turn i previous p) _ v a e
+
+    pub turns-stop : (r : Refusal) → v ≡ Refused r → turnsFrom f t (suc n) i previous p rest ≡ Refused r
+    unfolding turnsFrom
+    turns-stop r e = refused-on (turnRules f t i previous p) (hands-turn i previous p) _ v a r e
+
+-- An accepted file holds a sound case.
+pub file-sound : (f : List ℕ) → fileVerdict f ≡ Accepted → Laid f (trailerOf f) × Sound (readCase f)
+unfolding caseOf
+file-sound f h =
+    let a = layout-kept f _ h in
+    let b = graph-kept (readCase f) _ (a .1) in (
+      a .0,
       record {
-        cache = k .0 .cache;
-        nodes = in-numbers (trailerOf f) (k .0 .numbers) .nodes-low;
-        graph = graph-sound _ (k .1);
-        facts = λ i l. facts-kept f (trailerOf f) (k .2) i l .sound;
-      }
+        cache = a .0 .cache;
+        nodes = a .0 .nodes-low;
+        graph = b .1;
+        facts = λ i l. facts-kept f (trailerOf f) Accepted (b .2) i l .sound;
+      },
+    )
+
+pub enough : (f : List ℕ) (room : ℕ) → verdict f room ≡ Accepted → fileVerdict f ≡ Accepted
+unfolding verdict
+enough f room h = past 20 0 (ltb room 321) _ h .1

@@ -5,15 +5,16 @@ use mathlib.Core.Logic.{_≢_, _↔_}
 use mathlib.Core.Bool.{Bool, true, false}
 use mathlib.Core.List.{List, [], _∷_, List·Memᴰ}
 use lib.ListN.{length, getD}
-use Rattle.paper.specs.declared.Verdict.the-variants.{Accepted}
 use Rattle.paper.specs.Machines.{none}
 use Rattle.paper.specs.Traces.{Content}
 use Rattle.paper.specs.Cases.{Fact, Case, inside, size, scopeOf}
 use Rattle.paper.specs.Walks.{Edge, Walk, KeepsLimits}
 use Rattle.paper.specs.Runs.{LegalContent, Fetch, run, misses, ofFact, ofSet}
-use Rattle.paper.specs.Facts.{badHead, unfetched, evidenceRule}
+use Rattle.paper.specs.Facts.{badHead, unfetched}
 use Rattle.paper.specs.Files.{rowAt, readCase}
-use Rattle.paper.specs.Verdicts.{rulesTo10, verdict}
+use Rattle.paper.specs.declared.Verdict.the-variants.{Accepted}
+use Rattle.paper.specs.Rules.{Passes}
+use Rattle.paper.specs.Verdicts.{evidenceRules, wholeFileRules, verdict}
 use Rattle.paper.specs.OneFact.{fileWith}
 
 -- "on every walk from node 0 that keeps the loop limits and for every legal cache content at the start, the misses of each fact's accesses, of each set
@@ -82,7 +83,7 @@ module _ (e : Case) (t : Fact) where
     pub rows : List ℕ
     pub bytes : Bytes rows
     pub whole : length rows ≡ 16 * size (scopeOf e t)
-    pub passes : evidenceRule e (withRows rows) ≡ 0
+    pub passes : Passes (evidenceRules e 0 (withRows rows))
 
 -- Evidence that the tool accepts: rows with which the file that has f's graph, and this fact alone, is accepted. `room` is the length of the lent list.
 pub record AcceptedEvidence (f : List ℕ) (t : Fact) (room : ℕ) : Type 0 where
@@ -95,7 +96,7 @@ pub record AcceptedEvidence (f : List ℕ) (t : Fact) (room : ℕ) : Type 0 wher
 abbrev pub EvidenceExact : List ℕ → Type 0
 EvidenceExact f =
     Bytes f
-    → rulesTo10 f Accepted ≡ Accepted
+    → Passes (wholeFileRules f)
     → (t : Fact)
     → badHead (readCase f) t ≡ false
     → unfetched (readCase f) t ≡ false

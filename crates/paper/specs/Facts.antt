@@ -1,7 +1,8 @@
 -- "Facts and their evidence": a fact's head, its rows and the edge rule, as the rules 12 to 14 and 16 to 18 test them.
 use Prim.Native.Nat.{ℕ, _-_}
-use mathlib.Core.Bool.{Bool, false, cond, not, _&&_, _||_}
+use mathlib.Core.Bool.{Bool, true, false, cond, not, _&&_, _||_}
 use lib.Dec.{eqb, ltb, leb}
+use Rattle.paper.specs.declared.Previous.{Previous}
 use Rattle.paper.specs.Lists.{some}
 use Rattle.paper.specs.Machines.{none}
 use Rattle.paper.specs.Cases.{Row, Fact, Case, inside, size, scopeOf, rowOf, sameSet, fetches}
@@ -14,18 +15,30 @@ held r = cond (ltb (r .number) 8) (r .number) 0
 unfoldable pub holds : Row → ℕ → Bool
 holds r x = some (λ k. eqb (r .slot k) x) (held r)
 
-module _ (e : Case) where
-  -- 12: "its loop number, block or l out of range"
-  unfoldable pub badHead : Fact → Bool
-  badHead t =
-      (leb (e .loops) (t .scope) && not (eqb (t .scope) none))
-      || (eqb (t .block) none || (ltb (t .limit) 1 || ltb (e .ways) (t .limit)))
+-- 12: "its loop number, block or l out of range", of a head with the loop number w, the block b and the limit l
+unfoldable pub wrongHead : ℕ → ℕ → ℕ → ℕ → ℕ → Bool
+wrongHead loops ways w b l = (leb loops w && not (eqb w none)) || (eqb b none || (ltb l 1 || ltb ways l))
 
-  -- 13: "block below the previous fact's, or equal and its scope starts at or before the previous scope's last node"
-  unfoldable pub badOrder : Fact → Fact → Bool
-  badOrder previous t =
-      ltb (t .block) (previous .block)
-      || (eqb (t .block) (previous .block) && leb (scopeOf e t .first) (scopeOf e previous .last))
+-- 13: "block below the previous fact's, or equal and its scope starts at or before the previous scope's last node", of the block b and a scope that starts at `first`
+unfoldable pub wrongOrder : Previous → ℕ → ℕ → Bool
+wrongOrder previous b first = previous .any && (ltb b (previous .block) || (eqb b (previous .block) && leb first (previous .last)))
+
+-- the first fact comes after none
+abbrev pub nonePrevious : Previous
+nonePrevious = record { any = false; block = 0; last = 0 }
+
+module _ (e : Case) where
+  -- 12
+  unfoldable pub badHead : Fact → Bool
+  badHead t = wrongHead (e .loops) (e .ways) (t .scope) (t .block) (t .limit)
+
+  -- what a fact is to the one after it
+  abbrev pub previousOf : Fact → Previous
+  previousOf t = record { any = true; block = t .block; last = scopeOf e t .last }
+
+  -- 13
+  unfoldable pub badOrder : Previous → Fact → Bool
+  badOrder previous t = wrongOrder previous (t .block) (scopeOf e t .first)
 
   module _ (t : Fact) where
     -- 14: "no node of the scope fetches b"
@@ -69,9 +82,3 @@ module _ (e : Case) where
     -- 18: "a node that fetches b has row 8"
     unfoldable pub badManyAt : ℕ → Bool
     badManyAt j = fetches e t j && eqb (t .row j .number) 8
-
-    -- The number of the first of the rules 16 to 18 that the fact's rows break; 0 where they break none.
-    unfoldable pub evidenceRule : ℕ
-    evidenceRule =
-        cond (some badRowAt (size (scopeOf e t))) 16
-        (cond (some badStepAt (e .edges)) 17 (cond (some badManyAt (size (scopeOf e t))) 18 0))

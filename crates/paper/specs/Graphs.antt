@@ -27,21 +27,27 @@ returns l u v = inside l u && eqb v (l .first)
 unfoldable pub around : Loop → Loop → Bool
 around l o = ltb (o .first) (l .first) && leb (l .last) (o .last)
 
-module _ (e : Case) where
-  -- 6: "edge end not below n, or edge not after the one before it"
-  unfoldable pub badEdge : ℕ → Bool
-  badEdge i =
-      leb (e .nodes) (e .from i)
-      || (leb (e .nodes) (e .to i) || (ltb 0 i && not (risesFrom (e .from (i - 1)) (e .to (i - 1)) (e .from i) (e .to i))))
+-- 6: "edge end not below n, or edge not after the one before it", of edge i, from u to v, after one from u′ to v′. (Before edge 0 there is none.)
+unfoldable pub wrongEdge : ℕ → ℕ → ℕ → ℕ → ℕ → ℕ → Bool
+wrongEdge nodes i u′ v′ u v = leb nodes u || (leb nodes v || (ltb 0 i && not (risesFrom u′ v′ u v)))
 
-  -- 7: "loop's first above last, last not below n, B out of range, first not above that of the loop before it, or it crosses an earlier loop"
+-- 7: "loop's first above last, last not below n, B out of range, first not above that of the loop before it, or it crosses an earlier loop", of l, which is
+-- loop i, after one with the header h. (Before loop 0 there is none.)
+unfoldable pub wrongLoop : ℕ → (ℕ → Loop) → ℕ → ℕ → Loop → Bool
+wrongLoop nodes loop i h l =
+    ltb (l .last) (l .first)
+    || (leb nodes (l .last)
+    || (ltb (l .bound) 1
+    || (ltb 1000000 (l .bound) || ((ltb 0 i && leb (l .first) h) || some (λ j. crosses (loop j) l) i))))
+
+module _ (e : Case) where
+  -- 6
+  unfoldable pub badEdge : ℕ → Bool
+  badEdge i = wrongEdge (e .nodes) i (e .from (i - 1)) (e .to (i - 1)) (e .from i) (e .to i)
+
+  -- 7
   unfoldable pub badLoop : ℕ → Bool
-  badLoop i =
-      ltb (e .loop i .last) (e .loop i .first)
-      || (leb (e .nodes) (e .loop i .last)
-      || (ltb (e .loop i .bound) 1
-      || (ltb 1000000 (e .loop i .bound)
-      || ((ltb 0 i && leb (e .loop i .first) (e .loop (i - 1) .first)) || some (λ j. crosses (e .loop j) (e .loop i)) i))))
+  badLoop i = wrongLoop (e .nodes) (e .loop) i (e .loop (i - 1) .first) (e .loop i)
 
   -- 8: "forward edge enters beside a header"
   unfoldable pub badEntry : ℕ → Bool

@@ -10,6 +10,8 @@ pub mod Runs
 pub mod Facts
 pub mod Bounds
 pub mod Files
+pub mod Rules
+pub mod Known
 pub mod Verdicts
 pub mod OneFact
 pub mod Listings

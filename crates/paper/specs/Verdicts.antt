@@ -1,73 +1,103 @@
--- "Numbers of refusal": the check "tests 20 first, then 1 to 10 in order, each over the whole file; then for each fact in turn 11 to 18; then 19. The least place is given."
-use Prim.Native.Nat.{ℕ, _+_, _-_}
-use mathlib.Core.Bool.{Bool, cond, not, _&&_}
+-- The check "tests 20 first, then 1 to 10 in order, each over the whole file; then for each fact in turn 11 to 18; then 19": the chains of which the verdict is made, each by its name.
+use Prim.Native.Nat.{ℕ, zero, suc, _+_}
 use mathlib.Core.List.{List, _++_}
-use lib.Dec.{eqb, ltb}
+use lib.Dec.{ltb}
 use lib.ListN.{length, drop}
 use Rattle.paper.specs.declared.Trailer.{Trailer}
+use Rattle.paper.specs.declared.Previous.{Previous}
 use Rattle.paper.specs.declared.Verdict.{Verdict}
 use Rattle.paper.specs.declared.Verdict.the-variants.{Accepted, Refused}
-use Rattle.paper.specs.Answers.{refuse}
-use Rattle.paper.specs.Lists.{least, some}
+use Rattle.paper.specs.Lists.{some}
+use Rattle.paper.specs.Rules.{rule, ruleAt}
+use Rattle.paper.specs.Cases.{Fact, Case, size, scopeOf}
 use Rattle.paper.specs.Graphs.{badEdge, badLoop, badEntry, badReturn, badCount}
-use Rattle.paper.specs.Facts.{badHead, badOrder, unfetched, evidenceRule}
+use Rattle.paper.specs.Facts.{nonePrevious, previousOf, badHead, badOrder, unfetched, badRowAt, badStepAt, badManyAt}
 use Rattle.paper.specs.Bounds.{numbers}
-use Rattle.paper.specs.Files.{endAt, trailerOf, badLetters, badCache, badNumbers, badOffsets, factEnd, factPlace, caseOf, readCase}
+use Rattle.paper.specs.Files.{endAt, trailerOf, badLetters, badCache, badNumbers, badOffsets, factsAt, factAt, factEnd, factPlace, caseOf, readCase}
 
-abbrev pub refused : ℕ → ℕ → Verdict
-refused number place = Refused (refuse number place)
+-- 1 to 5, the layout; 1: "fewer than 32 bytes"
+unfoldable pub layoutRules : List ℕ → Verdict → Verdict
+layoutRules f rest =
+    rule 1 0 (ltb (length f) 32)
+    (rule 2 0 (badLetters f)
+    (rule 3 0 (badCache (trailerOf f)) (rule 4 0 (badNumbers (trailerOf f)) (rule 5 0 (badOffsets f (trailerOf f)) rest))))
 
--- A rule with one place, then the rest.
-abbrev pub rule : ℕ → Bool → Verdict → Verdict
-rule number bad rest = cond bad (refused number 0) rest
+module _ (e : Case) where
+  -- 6 and 7, edges and loops by themselves
+  unfoldable pub shapeRules : Verdict → Verdict
+  shapeRules rest = ruleAt 6 (badEdge e) (e .edges) (ruleAt 7 (badLoop e) (e .loops) rest)
 
--- A rule whose test is p at the places below n: "The least place is given."
-abbrev pub ruleAt : ℕ → (ℕ → Bool) → ℕ → Verdict → Verdict
-ruleAt number p n rest = cond (some p n) (refused number (least p n)) rest
+  -- 8 and 9, the ways into loops and back
+  unfoldable pub pathRules : Verdict → Verdict
+  pathRules rest = ruleAt 8 (badEntry e) (e .edges) (ruleAt 9 (badReturn e) (e .edges) rest)
+
+  -- 10
+  unfoldable pub countRules : Verdict → Verdict
+  countRules rest = ruleAt 10 (badCount e) (e .nodes) rest
+
+  abbrev pub graphRules : Verdict → Verdict
+  graphRules rest = shapeRules (pathRules (countRules rest))
+
+  -- a fact's rules have its index i as their place
+  module _ (i : ℕ) where
+    unfoldable pub headRule : Fact → Verdict → Verdict
+    headRule t rest = rule 12 i (badHead e t) rest
+
+    unfoldable pub orderRule : Previous → Fact → Verdict → Verdict
+    orderRule previous t rest = rule 13 i (badOrder e previous t) rest
+
+    unfoldable pub fetchRule : Fact → Verdict → Verdict
+    fetchRule t rest = rule 14 i (unfetched e t) rest
+
+    -- 16: "a row not sound"
+    unfoldable pub rowRules : Fact → Verdict → Verdict
+    rowRules t rest = rule 16 i (some (badRowAt e t) (size (scopeOf e t))) rest
+
+    -- 17: "an edge's rule broken"
+    unfoldable pub stepRules : Fact → Verdict → Verdict
+    stepRules t rest = rule 17 i (some (badStepAt e t) (e .edges)) rest
+
+    -- 18: "a node that fetches b has row 8"
+    unfoldable pub manyRules : Fact → Verdict → Verdict
+    manyRules t rest = rule 18 i (some (badManyAt e t) (size (scopeOf e t))) rest
+
+    abbrev pub evidenceRules : Fact → Verdict → Verdict
+    evidenceRules t rest = rowRules t (stepRules t (manyRules t rest))
 
 module _ (f : List ℕ) (t : Trailer) where
-  -- rules 6 to 10, then the rest
-  unfoldable pub graphRules : Verdict → Verdict
-  graphRules rest =
-      ruleAt 6 (badEdge (caseOf f t)) (t .edges)
-      (ruleAt 7 (badLoop (caseOf f t)) (t .loops)
-      (ruleAt 8 (badEntry (caseOf f t)) (t .edges)
-      (ruleAt 9 (badReturn (caseOf f t)) (t .edges) (ruleAt 10 (badCount (caseOf f t)) (t .nodes) rest))))
+  -- what comes after the head of the fact that stands at p; 15: "rows cut short"
+  unfoldable pub bodyRules : ℕ → ℕ → Verdict → Verdict
+  bodyRules i p rest =
+      fetchRule (caseOf f t) i (factAt f p) (rule 15 i (ltb (endAt f) (factEnd f t p)) (evidenceRules (caseOf f t) i (factAt f p) rest))
 
-  -- 13, for fact i
-  unfoldable pub badOrderAt : ℕ → Bool
-  badOrderAt i = ltb 0 i && badOrder (caseOf f t) (caseOf f t .fact (i - 1)) (caseOf f t .fact i)
+  -- The turn of fact i, which stands at p, after the previous one; 11: "fewer than 6 bytes left for a fact"
+  unfoldable pub turnRules : ℕ → Previous → ℕ → Verdict → Verdict
+  turnRules i previous p rest =
+      rule 11 i (ltb (endAt f) (p + 6))
+      (headRule (caseOf f t) i (factAt f p) (orderRule (caseOf f t) i previous (factAt f p) (bodyRules i p rest)))
 
-  -- The number of the first of the rules 11 to 18 that fact i breaks; 0 where it breaks none.
-  -- 11: "fewer than 6 bytes left for a fact"; 15: "rows cut short"
-  unfoldable pub factRule : ℕ → ℕ
-  factRule i =
-      cond (ltb (endAt f) (factPlace f t i + 6)) 11
-      (cond (badHead (caseOf f t) (caseOf f t .fact i)) 12
-      (cond (badOrderAt i) 13
-      (cond (unfetched (caseOf f t) (caseOf f t .fact i)) 14
-      (cond (ltb (endAt f) (factEnd f t (factPlace f t i))) 15 (evidenceRule (caseOf f t) (caseOf f t .fact i))))))
+  -- "for each fact in turn": n facts, from fact i on, which stands at p
+  unfoldable pub turnsFrom : ℕ → ℕ → Previous → ℕ → Verdict → Verdict
+  turnsFrom zero i previous p rest = rest
+  turnsFrom (suc n) i previous p rest =
+      let after = turnsFrom n (suc i) (previousOf (caseOf f t) (factAt f p)) (factEnd f t p) rest in
+      turnRules i previous p after
 
-  unfoldable pub badFact : ℕ → Bool
-  badFact i = not (eqb (factRule i) 0)
+  -- 11 to 18 for each fact; "then 19": "bytes left between last fact and trailer"
+  unfoldable pub factRules : Verdict → Verdict
+  factRules rest = turnsFrom (t .facts) 0 nonePrevious (factsAt t) (rule 19 0 (ltb (factPlace f t (t .facts)) (endAt f)) rest)
 
-  -- "then for each fact in turn 11 to 18; then 19", "bytes left between last fact and trailer"
-  unfoldable pub factRules : Verdict
-  factRules =
-      cond (some badFact (t .facts)) (refused (factRule (least badFact (t .facts))) (least badFact (t .facts)))
-      (rule 19 (ltb (factPlace f t (t .facts)) (endAt f)) Accepted)
+-- "1 to 10 in order, each over the whole file"
+abbrev pub wholeFileRules : List ℕ → Verdict → Verdict
+wholeFileRules f rest = layoutRules f (graphRules (readCase f) rest)
 
--- rules 1 to 10, then the rest; 1: "fewer than 32 bytes"
-unfoldable pub rulesTo10 : List ℕ → Verdict → Verdict
-rulesTo10 f rest =
-    rule 1 (ltb (length f) 32)
-    (rule 2 (badLetters f)
-    (rule 3 (badCache (trailerOf f))
-    (rule 4 (badNumbers (trailerOf f)) (rule 5 (badOffsets f (trailerOf f)) (graphRules f (trailerOf f) rest)))))
+-- The verdict on a file, without a lent list.
+abbrev pub fileVerdict : List ℕ → Verdict
+fileVerdict f = wholeFileRules f (factRules f (trailerOf f) Accepted)
 
 -- 20: "lent list too short (321)"
 unfoldable pub verdict : List ℕ → ℕ → Verdict
-verdict f room = rule 20 (ltb room 321) (rulesTo10 f (factRules f (trailerOf f)))
+verdict f room = rule 20 0 (ltb room 321) (fileVerdict f)
 
 -- "The check writes 321 64-bit numbers to a lent list: …, later ones untouched"; a refusal "changes no lent memory"
 abbrev pub lentAfter : List ℕ → List ℕ → Verdict → List ℕ

@@ -93,6 +93,13 @@ pub struct Trailer {
     pub sets: u8,
 }
 
+// What the order of facts asks of the previous fact: whether there is one, its block, and its scope's last node.
+pub struct Previous {
+    pub any: bool,
+    pub block: u16,
+    pub last: u16,
+}
+
 // Every refusal is made here.
 pub fn refuse(number: u8, place: usize) -> Refusal
     ensures { λ r. ⌜ r ≡ Answers.refuse number place ⌝ }

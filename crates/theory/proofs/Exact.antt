@@ -1,4 +1,4 @@
--- Demand 3, second half: evidence that the tool accepts exists exactly when few enough blocks can have gathered. Assumes nothing.
+-- Demand 3, second half: evidence that the tool accepts exists exactly when few enough blocks can have gathered.
 use Prim.Native.Nat.{ℕ, zero, suc, _+_, _*_, _-_, _≤_, _<_}
 use native.Mathlib.Omega.{arith}
 use native.Mathlib.Decide.{ℕ-discrete}
@@ -8,18 +8,17 @@ use mathlib.Core.Bool.{true, false}
 use mathlib.Core.List.{List, [], _∷_, List·Memᴰ·head, List·Memᴰ·tail}
 use lib.ListN.{getD}
 use Rattle.paper.specs.declared.Loop.{Loop}
-use Rattle.paper.specs.declared.Verdict.the-variants.{Accepted}
 use Rattle.paper.specs.Machines.{none}
 use Rattle.paper.specs.Cases.{Row, Fact, Case, inside, size, scopeOf}
 use Rattle.paper.specs.Facts.{badHead, unfetched}
-use Rattle.paper.specs.Files.{u16At, trailerOf, nodeAt, rowAt, caseOf, readCase}
-use Rattle.paper.specs.Verdicts.{rulesTo10}
+use Rattle.paper.specs.Files.{u16At, nodeAt, rowAt, caseOf, readCase}
+use Rattle.paper.specs.Rules.{Passes}
+use Rattle.paper.specs.Verdicts.{wholeFileRules}
 use Rattle.paper.specs.Demands.{Bytes, Gathered, FewGathered, withRows, Evidence, EvidenceExact}
-use Rattle.paper.proofs.Says.{says-true, says-is}
-use Rattle.paper.proofs.States.{says-range}
+use Rattle.paper.proofs.Says.{says-is}
 use Rattle.paper.proofs.GraphLaws.{inside-says}
 use Rattle.paper.proofs.FactLaws.{head-sound, fetched, evidence-law}
-use Rattle.paper.proofs.VerdictLaws.{in-numbers, ten-kept}
+use Rattle.paper.proofs.VerdictLaws.{layout-kept}
 use Rattle.paper.proofs.Meaning.{In, SoundEvidence}
 use Rattle.theory.proofs.SameRow.{Same, same-sound, same-rule}
 use Rattle.theory.proofs.RowBytes.{written, written-length, written-small, written-row}
@@ -76,7 +75,7 @@ module _ (e : Case) (t : Fact) (small : (v : ℕ) → e .block v < 65536) (low :
   pub evidence-exact : 1 ≤ t .limit → Evidence e t ↔ FewGathered e t
   evidence-exact l = (
     λ x v i p r o g.
-        sound-few e (withRows e t (x .rows)) l (evidence-law e (withRows e t (x .rows)) .0 (x .passes)) v i p r o
+        sound-few e (withRows e t (x .rows)) l (evidence-law e (withRows e t (x .rows)) 0 .0 (x .passes)) v i p r o
         (λ c m. regathered (x .rows) v c (g c m)),
     λ b.
         record {
@@ -85,7 +84,7 @@ module _ (e : Case) (t : Fact) (small : (v : ℕ) → e .block v < 65536) (low :
               written-small rows (size scope) (λ j h. omega (arith, row-sound e t small low (scope .first + j) .number))
               (λ j k h i. row-small e t small low (scope .first + j) k);
           whole = written-length rows (size scope);
-          passes = evidence-law e (withRows e t bytes) .1 (gathered-sound b);
+          passes = evidence-law e (withRows e t bytes) 0 .1 (gathered-sound b);
         },
   )
 
@@ -100,26 +99,23 @@ unfolding nodeAt u16At
 block-small f h v = omega (arith, byte-at f h (2 * v), byte-at f h (2 * v + 1))
 
 -- The same of a file that passes 1 to 10 and an otherwise sound fact, with rows in a list of their own.
-pub rows-exact : (f : List ℕ) → Bytes f → rulesTo10 f Accepted ≡ Accepted → (t : Fact) → badHead (readCase f) t ≡ false →
+pub rows-exact : (f : List ℕ) → Bytes f → Passes (wholeFileRules f) → (t : Fact) → badHead (readCase f) t ≡ false →
     Evidence (readCase f) t ↔ FewGathered (readCase f) t
 unfolding caseOf
 rows-exact f bytes passes t head =
     let h = head-sound (readCase f) t head in
-    let k = says-true (says-range _ _ _) (ten-kept f _ passes .0 .cache) .0 .most in
-    evidence-exact (readCase f) t (block-small f bytes) (omega (arith, h .high)) (h .low)
+    evidence-exact (readCase f) t (block-small f bytes) (omega (arith, h .high, layout-kept f _ passes .0 .ways-high)) (h .low)
 
 -- the head of an otherwise sound fact fits its 16-bit numbers
-head-bytes : (f : List ℕ) → Bytes f → rulesTo10 f Accepted ≡ Accepted → (t : Fact) → badHead (readCase f) t ≡ false → unfetched (readCase f) t ≡ false →
+head-bytes : (f : List ℕ) → Bytes f → Passes (wholeFileRules f) → (t : Fact) → badHead (readCase f) t ≡ false → unfetched (readCase f) t ≡ false →
     (t .scope < 65536) × (t .block < 65536) × (t .limit < 65536)
 unfolding caseOf
 head-bytes f bytes passes t head found =
     let h = head-sound (readCase f) t head in
-    let k = ten-kept f _ passes .0 in
-    let c = says-true (says-range _ _ _) (k .cache) .0 .most in
-    let n = in-numbers (trailerOf f) (k .numbers) .loops in
+    let k = layout-kept f _ passes .0 in
     let w = fetched (readCase f) t found in
-    let scope : t .scope < 65536 = elim (ℕ-discrete (t .scope) none) [ yes p ↦ omega arith | no q ↦ omega (arith, h .scope q) ] in
-    (scope, omega (arith, w .2, block-small f bytes (w .0)), omega (arith, h .high))
+    let scope : t .scope < 65536 = elim (ℕ-discrete (t .scope) none) [ yes p ↦ omega arith | no q ↦ omega (arith, h .scope q, k .loops-high) ] in
+    (scope, omega (arith, w .2, block-small f bytes (w .0)), omega (arith, h .high, k .ways-high))
 
 pub file-exact : (f : List ℕ) → EvidenceExact f
 file-exact f bytes passes t head found room long =

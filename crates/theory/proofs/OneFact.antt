@@ -1,53 +1,41 @@
 -- The file of one fact holds the same graph, and the fact with its rows. So it is accepted exactly when the rows are as long as they must be and pass.
-use Prim.Native.Nat.{ℕ, zero, suc, _+_, _*_, _≤_, _<_}
+use Prim.Native.Nat.{ℕ, _+_, _*_, _≤_, _<_}
 use native.Mathlib.Omega.{arith}
 use mathlib.Core.Path.{_≡_, refl, sym, _∙_, ap, subst}
 use mathlib.Core.Logic.{_≢_, _↔_}
-use mathlib.Core.Bool.{false, not}
+use mathlib.Core.Bool.{false}
 use mathlib.Core.List.{List, [], _∷_}
-use lib.Dec.{eqb}
 use lib.ListN.{length, getD}
-use borrow.Author.Tests.{le-ltb, ltb-false, eqb-true, not-false}
+use borrow.Author.Tests.{le-ltb, ltb-false}
 use Rattle.paper.specs.declared.Loop.{Loop}
 use Rattle.paper.specs.declared.Trailer.{Trailer}
 use Rattle.paper.specs.declared.Verdict.{Verdict}
 use Rattle.paper.specs.declared.Verdict.the-variants.{Accepted}
 use Rattle.paper.specs.Machines.{none}
 use Rattle.paper.specs.Cases.{Fact, size, rangeOf, scopeOf, fetches}
-use Rattle.paper.specs.Graphs.{badEdge, badLoop, badEntry, badReturn, badCount}
-use Rattle.paper.specs.Facts.{badHead, unfetched, evidenceRule}
+use Rattle.paper.specs.Facts.{nonePrevious, wrongOrder, badHead, badOrder, unfetched}
 use Rattle.paper.specs.Files.{u16At, u32At, endAt, trailerOf, badCache, edgesAt, loopsAt, factsAt, nodeAt, fromAt, toAt, loopAt, factEnd, factPlace, caseOf, readCase}
-use Rattle.paper.specs.Verdicts.{graphRules, badOrderAt, factRule, badFact, factRules, rulesTo10, verdict}
+use Rattle.paper.specs.Known.{Shaped}
+use Rattle.paper.specs.Rules.{Passes}
+use Rattle.paper.specs.Verdicts.{layoutRules, graphRules, headRule, orderRule, fetchRule, evidenceRules, bodyRules, turnRules, turnsFrom, factRules, wholeFileRules, verdict}
 use Rattle.paper.specs.OneFact.{graphBytes, fileWith}
 use Rattle.paper.specs.Demands.{withRows}
-use Rattle.paper.proofs.Least.{some-none, none-some}
-use Rattle.paper.proofs.GraphLaws.{KeptGraph}
+use Rattle.paper.proofs.Meaning.{SoundEvidence}
+use Rattle.paper.proofs.RuleLaws.{past, accepted-on}
+use Rattle.paper.proofs.FileLaws.{laid}
 use Rattle.paper.proofs.FactLaws.{head-sound, evidence-law}
-use Rattle.paper.proofs.VerdictLaws.{past, KeptLayout, in-numbers, ten-kept, fact-kept}
+use Rattle.paper.proofs.VerdictLaws.{layout-kept, graph-kept, hands-graph, turn-kept}
 use Rattle.paper.proofs.Parts.{stands-self, stands-take}
 use Rattle.paper.proofs.Sections.{word-is, u16-same, u32-same}
 use Rattle.paper.proofs.SameGraphs.{SameGraph, graph-same, range-same}
 use Rattle.paper.proofs.SameFacts.{SameFact, head-same, unfetched-same, evidence-same}
-use Rattle.theory.proofs.OneFile.{oneOf, graph-length, graph-part, head-part, rows-part, end-is, trailer-is, layout-kept}
+use Rattle.theory.proofs.OneFile.{KeptLayout, tests-kept, oneOf, graph-length, graph-part, head-part, rows-part, end-is, trailer-is, one-layout}
 
--- A file that keeps the rules 1 to 10 is judged by its facts.
-module _ (f : List ℕ) (t : Trailer) where
-  graph-on : KeptGraph (caseOf f t) → (rest : Verdict) → graphRules f t rest ≡ rest
-  unfolding graphRules caseOf
-  graph-on k rest =
-      rw (
-        some-none (badEdge (caseOf f t)) (t .edges) (k .edges),
-        some-none (badLoop (caseOf f t)) (t .loops) (k .loops),
-        some-none (badEntry (caseOf f t)) (t .edges) (k .entries),
-        some-none (badReturn (caseOf f t)) (t .edges) (k .returns),
-        some-none (badCount (caseOf f t)) (t .nodes) (k .counts),
-      )
-      refl
-
-  pub judged-by-facts : trailerOf f ≡ t → KeptLayout f t → KeptGraph (caseOf f t) → (room : ℕ) → 321 ≤ room → verdict f room ≡ factRules f t
-  unfolding verdict rulesTo10 badCache
-  judged-by-facts e l k room h =
-      rw (e, le-ltb room 321 h, le-ltb (length f) 32 (l .long), l .letters, l .cache, l .numbers, l .offsets) (graph-on k (factRules f t))
+-- A file that keeps the rules 1 to 5 is judged by its graph and its facts.
+judged-on : (f : List ℕ) (t : Trailer) → trailerOf f ≡ t → KeptLayout f t → (room : ℕ) → 321 ≤ room →
+    verdict f room ≡ graphRules (caseOf f t) (factRules f t Accepted)
+unfolding verdict layoutRules badCache
+judged-on f t e l room h = rw (e, le-ltb room 321 h, le-ltb (length f) 32 (l .long), l .letters, l .cache, l .numbers, l .offsets) refl
 
 module _ (f : List ℕ) (t : Fact) (rows : List ℕ) (k : KeptLayout f (trailerOf f)) where
   abbrev file : List ℕ
@@ -118,7 +106,7 @@ module _ (f : List ℕ) (t : Fact) (rows : List ℕ) (k : KeptLayout f (trailerO
             };
       }
 
-  module _ (g : KeptGraph (readCase f)) (h : badHead (readCase f) t ≡ false) where
+  module _ (g : Shaped (readCase f)) (h : badHead (readCase f) t ≡ false) where
     abbrev scope : Loop
     scope = scopeOf (readCase f) t
 
@@ -136,13 +124,12 @@ module _ (f : List ℕ) (t : Fact) (rows : List ℕ) (k : KeptLayout f (trailerO
     end-of-fact = rw (← head-word 0 place (omega arith) (omega arith)) (ap (λ (l : Loop). place + 6 + 16 * size l) (sym scope-is))
 
     -- the fact ends where the trailer begins: 15, "rows cut short", and 19, "bytes left between last fact and trailer"
-    accepted-one : factRules file one ≡ Accepted → (length rows ≡ 16 * size scope) × (evidenceRule (caseOf file one) (caseOf file one .fact 0) ≡ 0)
-    unfolding factRules badFact factPlace
+    accepted-one : factRules file one Accepted ≡ Accepted → (length rows ≡ 16 * size scope) × SoundEvidence (caseOf file one) (caseOf file one .fact 0)
+    unfolding factRules turnsFrom caseOf factPlace
     accepted-one a =
-        let b = past _ _ _ _ a in
-        let kept = fact-kept file one 0 (eqb-true _ _ (not-false _ (none-some _ 1 (b .0) 0 (omega arith)))) in
-        let end : endAt file ≤ factPlace file one 1 = ltb-false _ _ (past _ 19 0 _ (b .1) .0) in
-        (omega (arith, kept .room, end, end-is f t rows k, end-of-fact), evidence-law _ _ .1 (kept .sound .evidence))
+        let b = turn-kept file one 0 nonePrevious place _ a in
+        let end : endAt file ≤ factPlace file one 1 = ltb-false _ _ (past 19 0 _ _ (b .1) .0) in
+        (omega (arith, b .0 .room, end, end-is f t rows k, end-of-fact), b .0 .sound .evidence)
 
     module _ (fetched : unfetched (readCase f) t ≡ false) (whole : length rows ≡ 16 * size scope) where
       abbrev with : Fact
@@ -155,11 +142,11 @@ module _ (f : List ℕ) (t : Fact) (rows : List ℕ) (k : KeptLayout f (trailerO
       same = same-fact (size scope) (omega arith)
 
       some-node : 1 ≤ trailerOf f .nodes
-      some-node = in-numbers (trailerOf f) (k .numbers) .nodes-low
+      some-node = laid f (trailerOf f) (k .long) (k .cache) (k .numbers) (k .offsets) .nodes-low
 
-      same-evidence : evidenceRule (readCase f) with ≡ evidenceRule (caseOf file one) read
+      same-evidence : (rest : Verdict) → evidenceRules (readCase f) 0 with rest ≡ evidenceRules (caseOf file one) 0 read rest
       unfolding caseOf
-      same-evidence = evidence-same (readCase f) (caseOf file one) same-graph with read same g some-node there
+      same-evidence = evidence-same (readCase f) (caseOf file one) same-graph with read same g some-node there 0
 
       same-head : badHead (caseOf file one) read ≡ false
       unfolding badHead
@@ -169,41 +156,39 @@ module _ (f : List ℕ) (t : Fact) (rows : List ℕ) (k : KeptLayout f (trailerO
       unfolding caseOf unfetched fetches
       same-fetched = sym (unfetched-same (readCase f) (caseOf file one) same-graph with read same g some-node there) ∙ fetched
 
-      rule-kept : evidenceRule (readCase f) with ≡ 0 → factRule file one 0 ≡ 0
-      unfolding factRule badOrderAt factPlace
-      rule-kept a =
+      one-accepted : Passes (evidenceRules (readCase f) 0 with) → factRules file one Accepted ≡ Accepted
+      unfolding factRules turnsFrom turnRules headRule orderRule bodyRules fetchRule badOrder wrongOrder factPlace caseOf
+      one-accepted a =
           rw (
             le-ltb (endAt file) (place + 6) (omega (arith, end-is f t rows k)),
             same-head,
             same-fetched,
             le-ltb (endAt file) (factEnd file one place) (omega (arith, end-is f t rows k, end-of-fact)),
+            le-ltb (factPlace file one 1) (endAt file) (omega (arith, end-is f t rows k, end-of-fact)),
           )
-          (sym same-evidence ∙ a)
-
-      one-accepted : evidenceRule (readCase f) with ≡ 0 → factRules file one ≡ Accepted
-      unfolding factRules badFact
-      one-accepted a =
-          rw (some-none (badFact file one) 1 first, le-ltb (factPlace file one 1) (endAt file) (omega (arith, end-is f t rows k, end-of-fact))) refl
-        where
-          first : (i : ℕ) → i < 1 → not (eqb (factRule file one i) 0) ≡ false
-          first zero l = rw (rule-kept a) refl
-          first (suc i) l = absurd (omega arith)
+          (sym (same-evidence Accepted) ∙ a)
 
 -- What the file of one fact holds, but for its facts, is what f holds.
-pub one-graph : (f : List ℕ) (t : Fact) (rows : List ℕ) → rulesTo10 f Accepted ≡ Accepted → SameGraph (readCase f) (readCase (fileWith f t rows))
+pub one-graph : (f : List ℕ) (t : Fact) (rows : List ℕ) → Passes (wholeFileRules f) → SameGraph (readCase f) (readCase (fileWith f t rows))
 one-graph f t rows passes =
-    let k = ten-kept f Accepted passes .0 in
+    let k = tests-kept f _ passes in
     subst (λ (s : Trailer). SameGraph (readCase f) (caseOf (fileWith f t rows) s)) (sym (trailer-is f t rows k)) (same-graph f t rows k)
 
 -- For a graph that passes 1 to 10 and an otherwise sound fact, the file with that graph and this one fact with these rows is accepted exactly when the rows pass.
-pub one-fact : (f : List ℕ) (t : Fact) (rows : List ℕ) → rulesTo10 f Accepted ≡ Accepted → badHead (readCase f) t ≡ false → unfetched (readCase f) t ≡ false →
+pub one-fact : (f : List ℕ) (t : Fact) (rows : List ℕ) → Passes (wholeFileRules f) → badHead (readCase f) t ≡ false → unfetched (readCase f) t ≡ false →
     (room : ℕ) → 321 ≤ room →
-    (verdict (fileWith f t rows) room ≡ Accepted) ↔ ((length rows ≡ 16 * size (scopeOf (readCase f) t)) × (evidenceRule (readCase f) (withRows (readCase f) t rows) ≡ 0))
+    (verdict (fileWith f t rows) room ≡ Accepted) ↔ ((length rows ≡ 16 * size (scopeOf (readCase f) t)) × Passes (evidenceRules (readCase f) 0 (withRows (readCase f) t rows)))
 one-fact f t rows passes head fetched room long =
-    let k = ten-kept f Accepted passes in
-    let by = judged-by-facts (fileWith f t rows) (oneOf f) (trailer-is f t rows (k .0)) (layout-kept f t rows (k .0)) (graph-same _ _ (same-graph f t rows (k .0)) (k .1)) room long in (
+    let k = tests-kept f _ passes in
+    let graph : graphRules (readCase f) Accepted ≡ Accepted = layout-kept f _ passes .1 in
+    let g = graph-kept (readCase f) Accepted graph .0 in
+    let facts = factRules (fileWith f t rows) (oneOf f) Accepted in
+    let by : verdict (fileWith f t rows) room ≡ facts
+    = judged-on (fileWith f t rows) (oneOf f) (trailer-is f t rows k) (one-layout f t rows k) room long
+    ∙ sym (graph-same _ _ (same-graph f t rows k) facts)
+    ∙ accepted-on (graphRules (readCase f)) (hands-graph (readCase f)) facts Accepted (sym graph) refl in (
       λ a.
-          let r = accepted-one f t rows (k .0) (k .1) head (sym by ∙ a) in
-          (r .0, same-evidence f t rows (k .0) (k .1) head fetched (r .0) ∙ r .1),
-      λ a. by ∙ one-accepted f t rows (k .0) (k .1) head fetched (a .0) (a .1),
+          let r = accepted-one f t rows k g head (sym by ∙ a) in
+          (r .0, same-evidence f t rows k g head fetched (r .0) Accepted ∙ evidence-law _ _ 0 .1 (r .1)),
+      λ a. by ∙ one-accepted f t rows k g head fetched (a .0) (a .1),
     )

@@ -2,18 +2,23 @@
 use Prim.Native.Nat.{ℕ, _+_, _-_, _≤_, _<_}
 use native.Mathlib.Omega.{arith}
 use mathlib.Core.Path.{_≡_, refl, sym, _∙_, ap}
-use mathlib.Core.Bool.{false, not}
+use mathlib.Core.Bool.{true, false, not}
 use mathlib.Core.List.{List, [], _∷_, _++_}
-use lib.Dec.{eqb}
+use lib.Dec.{eqb, ltb}
 use lib.ListN.{length, take, drop, length-append, length-take, length-drop}
 use borrow.Author.Tests.{le-ltb, eq-eqb, ltb-false, eqb-true, not-false}
 use Rattle.paper.specs.declared.Trailer.{Trailer}
+use Rattle.paper.specs.declared.Verdict.{Verdict}
+use Rattle.paper.specs.declared.Verdict.the-variants.{Accepted}
+use Rattle.paper.specs.Machines.{inRange}
 use Rattle.paper.specs.Cases.{Fact}
-use Rattle.paper.specs.Files.{u8At, u16At, u32At, endAt, trailerOf, badLetter, badLetters, badNumbers, badOffsets, edgesAt, loopsAt, factsAt}
+use Rattle.paper.specs.Files.{u8At, u16At, u32At, endAt, trailerOf, badLetter, badLetters, badCache, badNumbers, badOffsets, edgesAt, loopsAt, factsAt}
+use Rattle.paper.specs.Verdicts.{layoutRules}
 use Rattle.paper.specs.OneFact.{words, graphBytes, headBytes, trailerWith, fileWith}
 use Rattle.paper.proofs.Least.{some-same}
 use Rattle.paper.proofs.Says.{neither}
-use Rattle.paper.proofs.VerdictLaws.{KeptLayout, in-numbers}
+use Rattle.paper.proofs.RuleLaws.{past}
+use Rattle.paper.proofs.FileLaws.{laid}
 use Rattle.paper.proofs.Parts.{Stands, stands-self, stands-left, stands-right, stands-take, stands-drop, stands-move}
 use Rattle.paper.proofs.Sections.{length-words, word-is, u8-same, u16-same, u32-same}
 
@@ -29,6 +34,23 @@ oneOf f =
       ways = trailerOf f .ways;
       sets = trailerOf f .sets;
     }
+
+-- rules 1 to 5, test by test
+pub record KeptLayout (f : List ℕ) (t : Trailer) : Type 0 where
+  pub long : 32 ≤ length f
+  pub letters : badLetters f ≡ false
+  pub cache : inRange (t .policy) (t .ways) (t .sets) ≡ true
+  pub numbers : badNumbers t ≡ false
+  pub offsets : badOffsets f t ≡ false
+
+pub tests-kept : (f : List ℕ) (rest : Verdict) → layoutRules f rest ≡ Accepted → KeptLayout f (trailerOf f)
+unfolding layoutRules badCache
+tests-kept f rest h =
+    let a = past 1 0 (ltb (length f) 32) _ h in
+    let b = past 2 0 (badLetters f) _ (a .1) in
+    let c = past 3 0 _ _ (b .1) in
+    let d = past 4 0 _ _ (c .1) in
+    record { long = ltb-false _ _ (a .0); letters = b .0; cache = not-false _ (c .0); numbers = d .0; offsets = past 5 0 _ _ (d .1) .0 }
 
 -- 5
 record Offsets (f : List ℕ) (t : Trailer) : Type 0 where
@@ -203,11 +225,11 @@ module _ (f : List ℕ) (t : Fact) (rows : List ℕ) (k : KeptLayout f (trailerO
   numbers-kept : badNumbers one ≡ false
   unfolding badNumbers
   numbers-kept =
-      let n = in-numbers (trailerOf f) (k .numbers) in
-      rw (le-ltb _ _ (n .nodes-low), le-ltb _ _ (n .nodes), le-ltb _ _ (n .edges), le-ltb _ _ (n .loops)) refl
+      let n = laid f (trailerOf f) (k .long) (k .cache) (k .numbers) (k .offsets) in
+      rw (le-ltb _ _ (n .nodes-low), le-ltb _ _ (n .nodes-high), le-ltb _ _ (n .edges-high), le-ltb _ _ (n .loops-high)) refl
 
-  pub layout-kept : KeptLayout file one
-  layout-kept =
+  pub one-layout : KeptLayout file one
+  one-layout =
       record {
         long = omega (arith, file-length);
         letters = letters-same ∙ k .letters;

@@ -1,6 +1,6 @@
 use borrow.Author.Needs.{needs}
 use mathlib.Core.Path.{sym, _∙_}
-use Rattle.layout.proofs.Laws.{read-laid, read-cache}
+use Rattle.layout.proofs.Laws.{read-laid}
 use Rattle.bolgverk.proofs.Checking.{too-short, layout-refused, judged-check}
 use Rattle.bolgverk.proofs.check.Statement.{statement}
 use Rattle.bolgverk.proofs.check.Tie as tie
@@ -13,7 +13,7 @@ judge-requires c κs =
     let m = c .before .before in
     let l = m .before .before in
     let e = sym (l .layout-of .ensures) ∙ m .read .given .1 in
-    (read-laid _ _ e, (read-cache _ _ e, l .before .if1 .left))
+    (read-laid _ _ e, l .before .if1 .left)
 
 returns-2 : tie.Need-returns-2
 returns-2 c =

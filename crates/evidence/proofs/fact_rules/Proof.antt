@@ -1,51 +1,44 @@
+-- `fact_rules` walks through the facts: q is where a fact has had its turn, l where the loop began it.
 use Prim.Native.Nat.{_-_}
-use mathlib.Core.Path.{refl, _∙_, ap}
+use mathlib.Core.Path.{refl}
 use borrow.Author.Needs.{needs}
-use Rattle.paper.specs.declared.Verdict.the-variants.{Refused}
-use Rattle.paper.specs.Verdicts.{badFact}
-use Rattle.paper.proofs.Least.{Passed, passed-start}
-use Rattle.evidence.specs.Turns.{Turn}
-use Rattle.evidence.proofs.Walk.{first-turn, turn-passed, turn-broken, walk-left, walk-done}
+use Rattle.evidence.proofs.Walk.{Walked, walk-start, walk-on, walk-stops, walk-left, walk-done}
 use Rattle.evidence.proofs.fact_rules.Statement.{statement}
 use Rattle.evidence.proofs.fact_rules.Tie as tie
 
 abbrev Inv-loop : tie.InvT-loop
-Inv-loop file t p₀ block₀ last₀ i₀ p block last i = Passed (badFact file t) (t .facts) i × Turn file t i p block last
+Inv-loop file t p₀ previous₀ i₀ p previous i = Walked file t i previous p
 
 abbrev μ-loop : tie.MeasureT-loop
-μ-loop file t p₀ block₀ last₀ i₀ p block last i = t .facts - i
+μ-loop file t p₀ previous₀ i₀ p previous i = t .facts - i
 
 loop-holds : tie.Need-loop-holds Inv-loop μ-loop
-loop-holds c = (passed-start _ _, first-turn _ _ (c .before .before .before .before .pre .0) _ refl)
+loop-holds c = walk-start _ _ (c .before .before .before .before .pre .0) _ refl
 
-judge-requires : tie.Need-judge-requires Inv-loop μ-loop
-judge-requires c κs =
-    let a = c .before .before in
-    (search needs, (search needs, (search needs, a .loop .inv .1)))
+turn-of-requires : tie.Need-turn-of-requires Inv-loop μ-loop
+turn-of-requires c κs = (search needs, (search needs, c .before .before .loop .inv .room))
 
 returns : tie.Need-returns Inv-loop μ-loop
 returns c =
-    let a = c .before .before .before .before in
-    ap Refused (c .refuse .ensures)
-    ∙ turn-broken _ _ _ _ (a .before .before .loop .inv .0) (a .if1 .taken) (c .before .before .before .judge .ensures .rule) (c .before .if2 .taken)
+    let q = c .before .before .before in
+    let l = q .before .before .before in
+    walk-stops _ _ _ _ _ (l .loop .inv) (q .before .if1 .taken) _ (q .turn-of .ensures) _ (c .before .r .given .1)
 
 loop-again : tie.Need-loop-again Inv-loop μ-loop
 loop-again c =
-    let a = c .before .before .before in
-    let j = c .before .before .judge .ensures in
-    (turn-passed _ _ _ _ (a .before .before .loop .inv .0) (a .if1 .taken) (j .rule) (c .if2 .left), j .next (c .if2 .left))
+    let q = c .before .before .before .before in
+    let l = q .before .before .before in
+    walk-on _ _ _ _ _ (l .loop .inv) (q .before .if1 .taken) _ (q .turn-of .ensures) _ (c .before .before .r2 .given .1)
 
 returns-2 : tie.Need-returns-2 Inv-loop μ-loop
 returns-2 c =
-    let a = c .before .before in
-    let w = a .before .before .loop .inv in
-    ap Refused (c .refuse2 .ensures) ∙ walk-left _ _ _ _ (w .0) (a .if1 .left) (w .1 .here) (c .before .if3 .taken)
+    let l = c .before .before .before .before in
+    walk-left _ _ _ _ _ (l .loop .inv) (c .before .before .if1 .left) _ (c .before .if2 .taken) (c .refuse .ensures)
 
 returns-3 : tie.Need-returns-3 Inv-loop μ-loop
 returns-3 c =
-    let a = c .before in
-    let w = a .before .before .loop .inv in
-    walk-done _ _ _ _ (w .0) (a .if1 .left) (w .1 .here) (c .if3 .left)
+    let l = c .before .before .before in
+    walk-done _ _ _ _ _ (l .loop .inv) (c .before .if1 .left) (c .if2 .left)
 
 pub fact-rules-spec : {M : Type 1} → statement M
 fact-rules-spec =
@@ -62,10 +55,10 @@ fact-rules-spec =
     (λ c. search needs)
     (λ c. search needs)
     loop-holds
-    judge-requires
+    turn-of-requires
     (λ c. search needs)
-    (λ c κs. search needs)
     returns
+    (λ c. search needs)
     (λ c. search needs)
     (λ c. search needs)
     loop-again

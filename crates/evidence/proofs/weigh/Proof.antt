@@ -1,42 +1,64 @@
-use mathlib.Core.Path.{refl, sym, _∙_}
+-- `weigh` answers as the body's chain: u is where the nodes were looked at, n where they were counted, m where the room was measured, g where the evidence was judged.
+use mathlib.Core.Path.{refl, sym, _∙_, ap}
 use mathlib.Core.Bool.{true, false}
-use native.Mathlib.Omega.{arith}
 use borrow.Author.Needs.{needs}
-use Rattle.evidence.proofs.Late.{rows-end, rows-cut, rows-whole, late-is, weighs}
+use Rattle.paper.specs.declared.Verdict.the-variants.{Accepted, Refused}
+use Rattle.evidence.proofs.Told.{told-refused, told-kept}
+use Rattle.evidence.proofs.Bodies.{cut-is, whole, next-of, body-is}
 use Rattle.evidence.proofs.weigh.Statement.{statement}
 use Rattle.evidence.proofs.weigh.Tie as tie
 
 returns : tie.Need-returns
 returns c =
-    let a = c .before .before in
-    let s = a .before .before .pre .1 .1 .0 in
-    weighs _ _ _ s _ _ _ (c .told .ensures) (late-is _ _ _ s true _ _ (sym (c .before .if1 .taken) ∙ a .unfetched .ensures) refl refl)
-    (λ z. absurd (omega arith)) (omega arith)
+    let u = c .before .before in
+    let s = u .before .before .pre .1 .1 .0 in
+    told-refused _ _ _ _ _
+    (ap Refused (c .refuse .ensures) ∙ body-is _ _ _ s _ true _ _ (sym (c .before .if1 .taken) ∙ u .unfetched .ensures) refl refl)
 
 returns-2 : tie.Need-returns-2
 returns-2 c =
-    let a = c .before .before .before .before .before in
-    let s = a .before .before .pre .1 .1 in
-    weighs _ _ _ (s .0) _ _ _ (c .told2 .ensures)
-    (late-is _ _ _ (s .0) false true _ (sym (c .before .before .before .before .if1 .left) ∙ a .unfetched .ensures)
-    (rows-cut _ _ _ (s .0) _ (c .before .before .nodes-of .ensures .0) (s .1) (c .before .if2 .taken)) refl)
-    (λ z. absurd (omega arith)) (omega arith)
+    let m = c .before .before in
+    let n = m .before in
+    let u = n .before .before .before in
+    let s = u .before .before .pre .1 .1 .0 in
+    told-refused _ _ _ _ _
+    (ap Refused (c .refuse2 .ensures)
+    ∙ body-is _ _ _ s _ false true _ (sym (n .before .before .if1 .left) ∙ u .unfetched .ensures)
+    (sym (c .before .if2 .taken) ∙ cut-is _ _ _ s _ (n .nodes-of .ensures .0) _ (m .short-of .ensures))
+    refl)
 
-evidence-rule-requires : tie.Need-evidence-rule-requires
-evidence-rule-requires c κs =
-    let p = c .before .before .before .before .before .before .pre in
-    (p .0, (p .1 .0, (p .1 .1 .0, record { room = omega (arith, c .before .nodes-of .ensures .0) })))
+evidence-rules-requires : tie.Need-evidence-rules-requires
+evidence-rules-requires c κs =
+    let m = c .before in
+    let n = m .before in
+    let p = n .before .before .before .before .before .pre in
+    (p .0, (p .1 .0, (p .1 .1 .0, whole _ _ _ (p .1 .1 .0) _ (n .nodes-of .ensures .0) _ (m .short-of .ensures) (c .if2 .left))))
 
 returns-3 : tie.Need-returns-3
 returns-3 c =
-    let b = c .before .before .before in
-    let a = b .before .before .before in
-    let s = a .before .before .pre .1 .1 in
-    let e = b .nodes-of .ensures .0 in
-    weighs _ _ _ (s .0) _ _ _ (c .told3 .ensures)
-    (late-is _ _ _ (s .0) false false _ (sym (b .before .before .if1 .left) ∙ a .unfetched .ensures)
-    (rows-whole _ _ _ (s .0) _ e (s .1) (c .before .before .if2 .left)) (c .before .evidence-rule .ensures))
-    (λ z. rows-end _ _ _ (s .0) _ e (s .1)) (omega arith)
+    let g = c .before .before in
+    let m = g .before .before in
+    let n = m .before in
+    let u = n .before .before .before in
+    let s = u .before .before .pre .1 .1 .0 in
+    let e = n .nodes-of .ensures .0 in
+    told-kept _ _ _ _ _
+    (body-is _ _ _ s _ false false Accepted (sym (n .before .before .if1 .left) ∙ u .unfetched .ensures)
+    (sym (g .before .if2 .left) ∙ cut-is _ _ _ s _ e _ (m .short-of .ensures))
+    (sym (c .enum-told .given .1) ∙ g .evidence-rules .ensures))
+    (next-of _ _ _ s _ e _ (m .short-of .ensures) (g .before .if2 .left))
+
+returns-4 : tie.Need-returns-4
+returns-4 c =
+    let g = c .before .before .before in
+    let m = g .before .before in
+    let n = m .before in
+    let u = n .before .before .before in
+    let s = u .before .before .pre .1 .1 .0 in
+    told-refused _ _ _ _ _
+    (body-is _ _ _ s _ false false (Refused _) (sym (n .before .before .if1 .left) ∙ u .unfetched .ensures)
+    (sym (g .before .if2 .left) ∙ cut-is _ _ _ s _ (n .nodes-of .ensures .0) _ (m .short-of .ensures))
+    (sym (c .before .evidence .given .1) ∙ g .evidence-rules .ensures))
 
 pub weigh-spec : {M : Type 1} → statement M
 weigh-spec =
@@ -49,11 +71,12 @@ weigh-spec =
     (λ c κs. search needs)
     (λ c. search needs)
     (λ c. search needs)
-    (λ c. search needs)
-    (λ c. search needs)
+    (λ c κs. search needs)
     (λ c κs. search needs)
     returns-2
-    evidence-rule-requires
+    evidence-rules-requires
     (λ c. search needs)
-    (λ c κs. search needs)
-    returns-3)
+    (λ c. search needs)
+    (λ c. search needs)
+    returns-3
+    returns-4)

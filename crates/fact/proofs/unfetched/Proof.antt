@@ -16,7 +16,8 @@ abbrev μ-loop : tie.MeasureT-loop
 
 returns : tie.Need-returns Inv-loop μ-loop
 returns c =
-    unfetched-is _ _ _ (c .before .before .before .before .before .before .pre .1) _ _ (c .before .before .before .before .nodes-of .ensures .0)
+    let n = c .before .before .before .before in
+    unfetched-is _ _ _ (n .before .before .pre .1) _ _ (n .nodes-of .ensures .0)
     (some-found _ _ _ (c .before .before .before .loop .inv) _ (c .before .before .loop-test .taken) (c .before .fetches .ensures) (c .if1 .taken))
 
 loop-again : tie.Need-loop-again Inv-loop μ-loop

@@ -1,22 +1,45 @@
--- `graph_rules` answers as `graphRules`: at each return, the rules that were kept and the one that was broken. Assumes nothing.
+-- `graph_rules` answers as the first of its parts that refuses, or as the last: s is where the shape was judged, k where it was accepted, w where the paths were.
 use borrow.Author.Needs.{needs}
-use Rattle.paper.specs.Verdicts.{graphRules}
-use Rattle.graph.proofs.Laws.{keeps, passes, stops, never}
+use Rattle.paper.proofs.RuleLaws.{never}
+use Rattle.graph.proofs.Chained.{shape-refused, shape-passed, paths-refused, counts-decide}
 use Rattle.graph.proofs.graph_rules.Statement.{statement}
 use Rattle.graph.proofs.graph_rules.Tie as tie
 
 returns : tie.Need-returns
-unfolding graphRules
-returns c = (search (passes, stops), (search needs, never _))
+returns c =
+    let s = c .before .before .before in
+    (shape-refused _ _ (s .shape-rules .ensures) _ (c .before .shape .given .1), (search needs, never _))
+
+path-rules-requires : tie.Need-path-rules-requires
+path-rules-requires c κs =
+    let k = c .before in
+    let s = k .before .before in
+    (search needs, (shape-passed _ _ (s .shape-rules .ensures) (k .enum-told .given .1), search needs))
 
 returns-2 : tie.Need-returns-2
-unfolding graphRules
-returns-2 c = (search (passes, stops), (search needs, never _))
+returns-2 c =
+    let w = c .before .before .before .before .before in
+    let k = w .before .before in
+    let s = k .before .before in
+    (paths-refused _ _ (s .shape-rules .ensures) (k .enum-told .given .1) _ (w .path-rules .ensures) _ (c .before .paths .given .1), (search needs, never _))
 
-rules-8-to-10-requires : tie.Need-rules-8-to-10-requires
-rules-8-to-10-requires c κs =
-    let r7 = c .before .before .before in
-    (search needs, (keeps _ _ _ (r7 .before .before .before .rule-6 .ensures) (r7 .before .if1 .left), (keeps _ _ _ (r7 .rule-7 .ensures) (c .before .if2 .left), search needs)))
+count-rules-requires : tie.Need-count-rules-requires
+count-rules-requires c κs =
+    let w = c .before .before .before .before .before in
+    let k = w .before .before in
+    let s = k .before .before in
+    (search needs, (shape-passed _ _ (s .shape-rules .ensures) (k .enum-told .given .1), search needs))
+
+returns-3 : tie.Need-returns-3
+returns-3 c =
+    let x = c .before .before in
+    let m = x .before .before in
+    let w = m .before .before .before .before in
+    let k = w .before .before in
+    let s = k .before .before in (
+      counts-decide _ _ (s .shape-rules .ensures) (k .enum-told .given .1) _ (w .path-rules .ensures) (m .enum-told2 .given .1) _ (x .count-rules .ensures .0),
+      (search needs, x .count-rules .ensures .1),
+    )
 
 pub graph-rules-spec : {M : Type 1} → statement M
 graph-rules-spec =
@@ -24,12 +47,13 @@ graph-rules-spec =
     (tie.spec
     (λ c κs. search needs)
     (λ c. search needs)
-    (λ c κs. search needs)
     returns
-    (λ c κs. search needs)
     (λ c. search needs)
-    (λ c κs. search needs)
+    path-rules-requires
+    (λ c. search needs)
+    (λ c. search needs)
     returns-2
-    rules-8-to-10-requires
     (λ c. search needs)
-    (λ c. search needs))
+    count-rules-requires
+    (λ c. search needs)
+    returns-3)

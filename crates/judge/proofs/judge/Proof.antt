@@ -1,5 +1,6 @@
+-- `judge` answers as its first part that refuses: g is where the graph was accepted, a what its verdict is, f where the facts were judged.
 use borrow.Author.Needs.{needs}
-use Rattle.judge.proofs.Judging.{graph-refused, edges-ordered, loops-fit, facts-refused, case-sound, facts-placed, judged}
+use Rattle.judge.proofs.Judging.{graph-refused, graph-shaped, facts-refused, case-sound, facts-placed, judged}
 use Rattle.judge.proofs.judge.Statement.{statement}
 use Rattle.judge.proofs.judge.Tie as tie
 
@@ -8,26 +9,26 @@ returns c = graph-refused _ _ _ (c .before .before .before .before .graph-rules 
 
 fact-rules-requires : tie.Need-fact-rules-requires
 fact-rules-requires c κs =
-    let a = c .before .before .before .graph-rules .ensures .0 in
-    let e = c .enum-told .given .1 in
-    (c .before .before .before .before .before .before .before .pre .0, (edges-ordered _ _ _ a e, loops-fit _ _ _ a e))
+    let a = c .before .before .before in
+    (a .before .before .before .before .pre .0, graph-shaped _ _ _ (a .graph-rules .ensures .0) (c .enum-told .given .1))
 
 returns-2 : tie.Need-returns-2
 returns-2 c =
     let f = c .before .before .before in
     let g = f .before in
-    facts-refused _ _ _ (g .before .before .before .graph-rules .ensures .0) (g .enum-told .given .1) _ (f .fact-rules .ensures) _ _ (c .before .facts .given .1)
+    let a = g .before .before .before in
+    facts-refused _ _ _ (a .graph-rules .ensures .0) (g .enum-told .given .1) _ (f .fact-rules .ensures) _ _ (c .before .facts .given .1)
 
 charge-requires : tie.Need-charge-requires
 charge-requires c κs =
     let e = c .before .before in
     let f = e .before .before in
     let g = f .before in
-    let a = g .before .before .before .graph-rules .ensures in
-    let p = g .before .before .before .before .before .before .before .pre in
-    let s = case-sound _ _ _ (a .0) (g .enum-told .given .1) _ (f .fact-rules .ensures) (e .enum-told2 .given .1) (p .0) (p .1 .0) in
-    let q = facts-placed _ _ _ (a .0) (g .enum-told .given .1) _ (f .fact-rules .ensures) (e .enum-told2 .given .1) in
-    (p .0, (s, (q, (a .1 .1 (g .enum-told .given .1), p .1 .1))))
+    let a = g .before .before .before in
+    let p = a .before .before .before .before .pre in
+    let s = case-sound _ _ _ (a .graph-rules .ensures .0) (g .enum-told .given .1) _ (f .fact-rules .ensures) (e .enum-told2 .given .1) (p .0) in
+    let q = facts-placed _ _ _ (a .graph-rules .ensures .0) (g .enum-told .given .1) _ (f .fact-rules .ensures) (e .enum-told2 .given .1) in
+    (p .0, (s, (q, (a .graph-rules .ensures .1 .1 (g .enum-told .given .1), p .1))))
 
 returns-3 : tie.Need-returns-3
 returns-3 c =
@@ -35,7 +36,8 @@ returns-3 c =
     let e = k .before .before .before in
     let f = e .before .before in
     let g = f .before in
-    judged _ _ _ (g .before .before .before .graph-rules .ensures .0) (g .enum-told .given .1) _ (f .fact-rules .ensures) (e .enum-told2 .given .1) _ _ (k .charge .ensures)
+    let a = g .before .before .before in
+    judged _ _ _ (a .graph-rules .ensures .0) (g .enum-told .given .1) _ (f .fact-rules .ensures) (e .enum-told2 .given .1) _ _ (k .charge .ensures)
 
 pub judge-spec : {M : Type 1} → statement M
 judge-spec =

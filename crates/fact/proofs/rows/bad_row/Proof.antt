@@ -25,15 +25,17 @@ returns-3 c =
 
 returns-4 : tie.Need-returns-4
 returns-4 c =
-    let a = c .before .before .before .before .before .before in
-    row-block _ _ _ _ (a .u16-at .ensures) (omega arith) (limit-high _ _ _ (a .before .before .before .pre .1 .0) _ (c .before .before .if3 .left)) _
+    let l = c .before .before in
+    let a = l .before .before .before .before in
+    row-block _ _ _ _ (a .u16-at .ensures) (omega arith) (limit-high _ _ _ (a .before .before .before .pre .1 .0) _ (l .if3 .left)) _
     (c .before .bad-blocks .ensures) (c .if4 .taken)
     ∙ row-is _ _ _ _ _ (a .before .row-at .ensures .0)
 
 returns-5 : tie.Need-returns-5
 returns-5 c =
-    let a = c .before .before .before .before .before .before .before in
-    row-set _ _ _ _ (a .u16-at .ensures) (omega arith) (limit-high _ _ _ (a .before .before .before .pre .1 .0) _ (c .before .before .before .if3 .left)) _
+    let l = c .before .before .before in
+    let a = l .before .before .before .before in
+    row-set _ _ _ _ (a .u16-at .ensures) (omega arith) (limit-high _ _ _ (a .before .before .before .pre .1 .0) _ (l .if3 .left)) _
     (c .before .before .bad-blocks .ensures) _ (c .before .if4 .left) (c .bad-rest2 .ensures)
     ∙ row-is _ _ _ _ _ (a .before .row-at .ensures .0)
 

@@ -12,22 +12,25 @@ returns c =
 
 sub-breaks-2 : tie.Need-sub-breaks-2
 sub-breaks-2 c =
-    let a = c .before .before .before .before .before .before in
+    let o = c .before .before .before in
+    let a = o .before .before .before in
     let h = a .before .before .args .h in
-    omega (arith, in-range (h .first) (h .last) (a .to-at .result) (c .before .before .before .if1 .left))
+    omega (arith, in-range (h .first) (h .last) (a .to-at .result) (o .if1 .left))
 
 breaks-requires : tie.Need-breaks-requires
 breaks-requires c κs =
-    let a = c .before .before .before .before .before .before in
+    let o = c .before .before .before in
+    let a = o .before .before .before in
     let h = a .before .before .args .h in
-    let v = in-range (h .first) (h .last) (a .to-at .result) (c .before .before .before .if1 .left) in
+    let v = in-range (h .first) (h .last) (a .to-at .result) (o .if1 .left) in
     (search needs, (search needs, (search needs, (search needs, omega (arith, v, a .before .before .pre .1 .1 .1 .1)))))
 
 returns-2 : tie.Need-returns-2
 returns-2 c =
-    let a = c .before .before .before .before .before .before .before in
+    let o = c .before .before .before .before in
+    let a = o .before .before .before in
     let p = a .before .before .pre .1 in
-    step-in _ _ _ (p .0) _ _ _ (p .1 .1 .1) (a .to-at .ensures) _ _ (c .before .before .before .before .if1 .left)
+    step-in _ _ _ (p .0) _ _ _ (p .1 .1 .1) (a .to-at .ensures) _ _ (o .if1 .left)
     (c .before .before .before .node-at .ensures) (c .breaks .ensures)
 
 pub bad-step-spec : {M : Type 1} → statement M

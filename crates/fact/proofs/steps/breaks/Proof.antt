@@ -56,15 +56,16 @@ drops-requires c κs =
 
 returns-6 : tie.Need-returns-6
 returns-6 c =
-    let b = c .before .before .before .before .before .before in
+    let k = c .before .before .before .before in
+    let b = k .before .before in
     let d = b .before .before in
     let a = d .before .before in
     let p = a .before .before .before .pre .1 in
     let l = number-at _ _ _ (p .1 .1 .0) _ _ _ (p .1 .1 .1 .0) (b .before .row-at2 .ensures .0) (b .u16-at2 .ensures) in
     breaks-drops _ _ _ (p .0) _ _ _ _ _ (a .before .row-at .ensures .0) (a .u16-at .ensures) (d .if1 .left) _ _
-    (b .before .row-at2 .ensures .0) (b .u16-at2 .ensures) (c .before .before .before .before .before .if2 .left) (c .before .before .before .before .if3 .left) (omega arith) _ _
+    (b .before .row-at2 .ensures .0) (b .u16-at2 .ensures) (k .before .if2 .left) (k .if3 .left) (omega arith) _ _
     (c .before .before .lost .ensures) (c .before .if5 .left)
-    (omega (arith, c .before .before .before .before .before .if2 .left, c .before .before .before .before .if3 .left)) (c .drops .ensures)
+    (omega (arith, k .before .if2 .left, k .if3 .left)) (c .drops .ensures)
 
 pub breaks-spec : {M : Type 1} → statement M
 breaks-spec =

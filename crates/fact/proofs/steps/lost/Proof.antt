@@ -12,7 +12,8 @@ returns-2 c =
 
 returns-3 : tie.Need-returns-3
 returns-3 c =
-    forgets-same _ _ _ (c .before .before .before .before .before .before .pre .1 .0) _ _ (c .before .before .before .before .if1 .left) _ (c .before .before .before .home .ensures .0) _
+    let h = c .before .before .before in
+    forgets-same _ _ _ (h .before .before .before .pre .1 .0) _ _ (h .before .if1 .left) _ (h .home .ensures .0) _
     (c .before .if2 .left) (c .holds .ensures)
 
 pub lost-spec : {M : Type 1} → statement M

@@ -21,12 +21,14 @@ shared-slice-read-breaks c =
     let d = c .before in
     let s = d .before .before .before .before in
     let p = s .before .before .before .pre in
-    omega (arith, d .to-at .ensures, p .1 .0 .ends (s .loop .i) (d .before .before .if1 .taken), p .1 .1 .1 .1 .room)
+    omega (arith, d .to-at .ensures, p .1 .0 .ends (s .loop .i) (d .before .before .if1 .taken), p .1 .1 .1 .room)
 
 -- what the test says of the edge
 test : (c : tie.After-breaks Inv-loop μ-loop) →
-    let a = c .before .before .before .before .before .before .before .before .before .args in
-    c .breaks .result ≡ edgeRule (caseOf (a .file .now) (a .t)) (a .rule) (c .before .before .before .before .before .before .loop .i)
+    let d = c .before .before in
+    let s = d .before .before .before .before in
+    let a = s .before .before .before .args in
+    c .breaks .result ≡ edgeRule (caseOf (a .file .now) (a .t)) (a .rule) (s .loop .i)
 unfolding caseOf
 test c =
     let d = c .before .before in
@@ -34,7 +36,7 @@ test c =
     let p = s .before .before .before .pre in
     let h = p .1 .0 .ends (s .loop .i) (d .before .before .if1 .taken) in
     c .breaks .ensures
-    ∙ edge-at _ (p .1 .1 .0) _ _ (p .1 .1 .1 .0) _ _ _ _ (p .1 .1 .1 .1) (d .before .from-at .ensures) (d .to-at .ensures) (omega (arith, d .to-at .ensures, h)) refl
+    ∙ edge-at _ (p .1 .0) _ _ (p .1 .1 .0) _ _ _ _ (p .1 .1 .1) (d .before .from-at .ensures) (d .to-at .ensures) (omega (arith, d .to-at .ensures, h)) refl
 
 returns : tie.Need-returns Inv-loop μ-loop
 returns c =

@@ -1,3 +1,4 @@
+-- A table that holds the marks of the first j loops: f is where all nodes were filled with the start, i where the loop over the loops is, m where a mark was made.
 use Prim.Native.Nat.{_-_, _≤_}
 use native.Mathlib.Omega.{arith}
 use mathlib.Core.Path.{_≡_, refl, _∙_}
@@ -21,13 +22,15 @@ abbrev μ-loop : tie.MeasureT-loop
 
 loop-holds : tie.Need-loop-holds Inv-loop μ-loop
 loop-holds c =
-    let f = c .before .before .before .fill .ensures in
-    (omega arith, refl, holds-start f _ _ refl (omega arith) (omega (arith, c .before .before .before .before .before .before .before .before .pre)) (marked-start _ _))
+    let f = c .before .before .before in
+    (omega arith, refl, holds-start (f .fill .ensures) _ _ refl (omega arith) (omega (arith, f .before .before .before .before .before .pre)) (marked-start _ _))
 
 -- the mark is that of loop j
 is-mark : (c : tie.After-loop-mark Inv-loop μ-loop) →
-    let a = c .before .before .before .before .before .before .before .before .before .before .before .before .before .before .args in
-    c .loop-mark .result ≡ marks (caseOf (a .file .now) (a .t)) (a .rule) (c .before .before .before .before .before .loop .j)
+    let i = c .before .before .before .before .before in
+    let f = i .before .before .before .before in
+    let a = f .before .before .before .before .before .args in
+    c .loop-mark .result ≡ marks (caseOf (a .file .now) (a .t)) (a .rule) (i .loop .j)
 is-mark c =
     let i = c .before .before .before .before .before in
     handed-mark _ _ _ _ _ _ _ (i .before .loops-of .ensures) (c .before .before .before .if1 .taken)
@@ -39,8 +42,9 @@ unfolding caseOf
 fill-requires-2 c κs =
     let m = c .before in
     let i = m .before .before .before .before .before in
-    let f = mark-fits _ (i .before .before .before .before .before .before .before .before .before .pre .1 .0) _ _ _ (m .before .before .before .if1 .taken) (is-mark m) in
-    (f .0, omega (arith, f .1, i .loop .inv .2 .room))
+    let f = i .before .before .before .before in
+    let w = mark-fits _ (f .before .before .before .before .before .pre .1 .0) _ _ _ (m .before .before .before .if1 .taken) (is-mark m) in
+    (w .0, omega (arith, w .1, i .loop .inv .2 .room))
 
 loop-again : tie.Need-loop-again Inv-loop μ-loop
 loop-again c =
@@ -50,7 +54,9 @@ loop-again c =
     (omega arith, f .fill2 .ensures .same ∙ i .loop .inv .1, marked-step _ _ _ _ _ _ _ (is-mark m) (f .fill2 .ensures) (i .loop .inv .2))
 
 same-length : tie.Need-same-length Inv-loop μ-loop
-same-length c = c .before .before .loop .inv .1 ∙ c .before .before .before .before .before .before .fill .ensures .same
+same-length c =
+    let i = c .before .before in
+    i .loop .inv .1 ∙ i .before .before .before .before .fill .ensures .same
 
 returns : tie.Need-returns Inv-loop μ-loop
 returns c =
@@ -67,10 +73,16 @@ mark-nodes-spec =
     (λ c κs. search needs)
     (λ c κs. search needs)
     loop-holds
-    (λ c κs. let i = c .before .before .before in omega (arith, i .before .before .before .before .before .before .before .before .before .pre .0 .loops-high))
+    (λ c κs.
+    let i = c .before .before .before in
+    let f = i .before .before .before .before in
+    omega (arith, f .before .before .before .before .before .pre .0 .loops-high))
     (λ c. search needs)
     (λ c. search needs)
-    (λ c. let i = c .before .before .before in omega (arith, i .before .loops-of .ensures .room, i .before .before .before .before .before .before .before .before .before .pre .0 .loops-high))
+    (λ c.
+    let i = c .before .before .before in
+    let f = i .before .before .before .before in
+    omega (arith, i .before .loops-of .ensures .room, f .before .before .before .before .before .pre .0 .loops-high))
     (λ c κs. search needs)
     fill-requires-2
     (λ c. search needs)

@@ -5,9 +5,9 @@ use Rattle.paper.specs.declared.Loop.{Loop}
 use Rattle.paper.specs.Files.{caseOf}
 use Rattle.paper.specs.Graphs.{badLoop}
 use Rattle.paper.proofs.Least.{Passed, passed-start, passed-more, least-found, least-end}
-use Rattle.graph.proofs.Before.{IsBefore, before-start, before-more, bad-loop-after}
-use Rattle.graph.proofs.nesting.rule_7.Statement.{statement}
-use Rattle.graph.proofs.nesting.rule_7.Tie as tie
+use Rattle.paper.proofs.Before.{IsBefore, before-start, before-more, loop-after}
+use Rattle.graph.proofs.nesting.first_bad_loop.Statement.{statement}
+use Rattle.graph.proofs.nesting.first_bad_loop.Tie as tie
 
 abbrev Inv-loop : tie.InvT-loop
 Inv-loop file t i₀ h₀ i h = Passed (badLoop (caseOf file t)) (t .loops) i × IsBefore (λ j. caseOf file t .loop j .first) i h
@@ -24,7 +24,7 @@ returns c =
     let d = c .before .before in
     let s = d .before .before .before in
     least-found _ _ _ _ (s .loop .inv .0) (d .before .if1 .taken)
-    (c .before .bad-loop .ensures ∙ bad-loop-after _ _ _ _ (s .loop .inv .1) (d .loop-at .ensures))
+    (c .before .wrong-loop .ensures ∙ loop-after _ _ _ _ (s .loop .inv .1) (d .loop-at .ensures))
     (c .if2 .taken)
 
 loop-again : tie.Need-loop-again Inv-loop μ-loop
@@ -33,7 +33,7 @@ loop-again c =
     let d = c .before .before in
     let s = d .before .before .before in (
       passed-more _ _ _ _ (s .loop .inv .0) (d .before .if1 .taken)
-          (c .before .bad-loop .ensures ∙ bad-loop-after _ _ _ _ (s .loop .inv .1) (d .loop-at .ensures))
+          (c .before .wrong-loop .ensures ∙ loop-after _ _ _ _ (s .loop .inv .1) (d .loop-at .ensures))
           (c .if2 .left),
       before-more _ _ _ (ap (λ (x : Loop). x .first) (d .loop-at .ensures)),
     )
@@ -41,8 +41,8 @@ loop-again c =
 returns-2 : tie.Need-returns-2 Inv-loop μ-loop
 returns-2 c = least-end _ _ _ (c .before .before .loop .inv .0) (c .if1 .left)
 
-pub rule-7-spec : {M : Type 1} → statement M
-rule-7-spec =
+pub first-bad-loop-spec : {M : Type 1} → statement M
+first-bad-loop-spec =
     tie.close
     (tie.spec
     Inv-loop

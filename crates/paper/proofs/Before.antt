@@ -1,13 +1,12 @@
--- A loop over edges or loops carries what stood before; at index 0 that counts for nothing. Assumes nothing.
+-- A loop over edges or loops carries what stood before; at index 0 that counts for nothing.
 use Prim.Native.Nat.{ℕ, zero, suc, _+_, _-_, _<_}
 use native.Mathlib.Omega.{arith}
 use mathlib.Core.Path.{_≡_, refl}
 use mathlib.Core.Bool.{Bool, not, _&&_}
 use lib.Dec.{ltb, leb}
 use Rattle.paper.specs.declared.Loop.{Loop}
 use Rattle.paper.specs.Cases.{Case}
-use Rattle.paper.specs.Graphs.{risesFrom, badEdge, badLoop}
-use Rattle.graph.specs.After.{badEdgeAfter, badLoopAfter}
+use Rattle.paper.specs.Graphs.{risesFrom, wrongEdge, wrongLoop, badEdge, badLoop}
 
 -- a is g's value at the index before i, if there is one
 pub record IsBefore (g : ℕ → ℕ) (i a : ℕ) : Type 0 where
@@ -26,11 +25,12 @@ module _ (g : ℕ → ℕ) where
   guarded k zero a h = refl
   guarded k (suc i) a h = rw (h .is (omega arith)) refl
 
+-- the rules at an index, by what stood before it
 module _ (e : Case) (i : ℕ) where
-  pub bad-edge-after :
-      (a b u v : ℕ) → IsBefore (e .from) i a → IsBefore (e .to) i b → u ≡ e .from i → v ≡ e .to i → badEdgeAfter (e .nodes) i a b u v ≡ badEdge e i
-  unfolding badEdgeAfter badEdge
-  bad-edge-after a b u v p q f t =
+  pub edge-after :
+      (a b u v : ℕ) → IsBefore (e .from) i a → IsBefore (e .to) i b → u ≡ e .from i → v ≡ e .to i → wrongEdge (e .nodes) i a b u v ≡ badEdge e i
+  unfolding wrongEdge badEdge
+  edge-after a b u v p q f t =
       rw (
         f,
         t,
@@ -39,6 +39,6 @@ module _ (e : Case) (i : ℕ) where
       )
       refl
 
-  pub bad-loop-after : (a : ℕ) (l : Loop) → IsBefore (λ j. e .loop j .first) i a → l ≡ e .loop i → badLoopAfter (e .nodes) (e .loop) i a l ≡ badLoop e i
-  unfolding badLoopAfter badLoop
-  bad-loop-after a l p f = rw (f, guarded (λ j. e .loop j .first) (leb (e .loop i .first)) i a p) refl
+  pub loop-after : (a : ℕ) (l : Loop) → IsBefore (λ j. e .loop j .first) i a → l ≡ e .loop i → wrongLoop (e .nodes) (e .loop) i a l ≡ badLoop e i
+  unfolding wrongLoop badLoop
+  loop-after a l p f = rw (f, guarded (λ j. e .loop j .first) (leb (e .loop i .first)) i a p) refl

@@ -1,7 +1,7 @@
 use borrow.Author.Needs.{needs}
 use Rattle.graph.proofs.Counting.{least-count, all-counted}
-use Rattle.graph.proofs.counts.rule_10.Statement.{statement}
-use Rattle.graph.proofs.counts.rule_10.Tie as tie
+use Rattle.graph.proofs.counts.first_bad_count.Statement.{statement}
+use Rattle.graph.proofs.counts.first_bad_count.Tie as tie
 
 returns : tie.Need-returns
 returns c =
@@ -10,5 +10,5 @@ returns c =
     let e = least-count _ _ w _ (d .mark-nodes .ensures) _ (c .first-zero .ensures) in
     (e, λ h. all-counted _ _ w _ (d .mark-nodes .ensures) _ e h)
 
-pub rule-10-spec : {M : Type 1} → statement M
-rule-10-spec = tie.close (tie.spec (λ c κs. search needs) (λ c κs. search needs) (λ c. search needs) returns)
+pub first-bad-count-spec : {M : Type 1} → statement M
+first-bad-count-spec = tie.close (tie.spec (λ c κs. search needs) (λ c κs. search needs) (λ c. search needs) returns)

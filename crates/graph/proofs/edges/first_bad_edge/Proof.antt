@@ -4,9 +4,9 @@ use borrow.Author.Needs.{needs}
 use Rattle.paper.specs.Files.{caseOf}
 use Rattle.paper.specs.Graphs.{badEdge}
 use Rattle.paper.proofs.Least.{Passed, passed-start, passed-more, least-found, least-end}
-use Rattle.graph.proofs.Before.{IsBefore, before-start, before-more, bad-edge-after}
-use Rattle.graph.proofs.edges.rule_6.Statement.{statement}
-use Rattle.graph.proofs.edges.rule_6.Tie as tie
+use Rattle.paper.proofs.Before.{IsBefore, before-start, before-more, edge-after}
+use Rattle.graph.proofs.edges.first_bad_edge.Statement.{statement}
+use Rattle.graph.proofs.edges.first_bad_edge.Tie as tie
 
 abbrev Inv-loop : tie.InvT-loop
 Inv-loop file t i₀ a₀ b₀ i a b =
@@ -24,8 +24,8 @@ returns c =
     let d = c .before .before in
     let s = d .before .before .before .before in
     least-found _ _ _ _ (s .loop .inv .0) (d .before .before .if1 .taken)
-    (c .before .bad-edge .ensures
-    ∙ bad-edge-after _ _ _ _ _ _ (s .loop .inv .1) (s .loop .inv .2) (d .before .from-at .ensures) (d .to-at .ensures))
+    (c .before .wrong-edge .ensures
+    ∙ edge-after _ _ _ _ _ _ (s .loop .inv .1) (s .loop .inv .2) (d .before .from-at .ensures) (d .to-at .ensures))
     (c .if2 .taken)
 
 loop-again : tie.Need-loop-again Inv-loop μ-loop
@@ -34,8 +34,8 @@ loop-again c =
     let d = c .before .before in
     let s = d .before .before .before .before in (
       passed-more _ _ _ _ (s .loop .inv .0) (d .before .before .if1 .taken)
-          (c .before .bad-edge .ensures
-          ∙ bad-edge-after _ _ _ _ _ _ (s .loop .inv .1) (s .loop .inv .2) (d .before .from-at .ensures) (d .to-at .ensures))
+          (c .before .wrong-edge .ensures
+          ∙ edge-after _ _ _ _ _ _ (s .loop .inv .1) (s .loop .inv .2) (d .before .from-at .ensures) (d .to-at .ensures))
           (c .if2 .left),
       before-more _ _ _ (d .before .from-at .ensures),
       before-more _ _ _ (d .to-at .ensures),
@@ -44,8 +44,8 @@ loop-again c =
 returns-2 : tie.Need-returns-2 Inv-loop μ-loop
 returns-2 c = least-end _ _ _ (c .before .before .loop .inv .0) (c .if1 .left)
 
-pub rule-6-spec : {M : Type 1} → statement M
-rule-6-spec =
+pub first-bad-edge-spec : {M : Type 1} → statement M
+first-bad-edge-spec =
     tie.close
     (tie.spec
     Inv-loop

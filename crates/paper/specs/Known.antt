@@ -1,0 +1,32 @@
+-- What chains of rules that are passed say of a file and of its case: the contracts of all that comes after them speak of these two records.
+use Prim.Native.Nat.{ℕ, suc, _≤_, _<_}
+use mathlib.Core.Path.{_≡_}
+use mathlib.Core.Bool.{true}
+use mathlib.Core.List.{List}
+use lib.ListN.{length}
+use Rattle.paper.specs.declared.Trailer.{Trailer}
+use Rattle.paper.specs.Machines.{inRange}
+use Rattle.paper.specs.Cases.{Case}
+use Rattle.paper.specs.Files.{endAt, factsAt}
+
+-- The file is laid out as its trailer says: every section is there, and the numbers are small.
+pub record Laid (f : List ℕ) (t : Trailer) : Type 0 where
+  pub long : 32 ≤ length f
+  pub room : factsAt t ≤ endAt f
+  pub nodes-low : 1 ≤ t .nodes
+  pub nodes-high : t .nodes ≤ 1024
+  pub edges-high : t .edges ≤ 4096
+  pub loops-high : t .loops ≤ 64
+  pub facts-high : t .facts ≤ 256
+  pub ways-high : t .ways ≤ 8
+  pub sets-low : 1 ≤ t .sets
+  pub sets-high : t .sets ≤ 64
+  pub cache : inRange (t .policy) (t .ways) (t .sets) ≡ true
+
+-- Edges end at nodes and come by rising sources; loops are ranges of nodes, come by rising headers, and are nested or apart.
+pub record Shaped (e : Case) : Type 0 where
+  pub ends : (i : ℕ) → i < e .edges → (e .from i < e .nodes) × (e .to i < e .nodes)
+  pub climbs : (i : ℕ) → suc i < e .edges → e .from i ≤ e .from (suc i)
+  pub fits : (j : ℕ) → j < e .loops → (e .loop j .first ≤ e .loop j .last) × (e .loop j .last < e .nodes) × (1 ≤ e .loop j .bound)
+  pub rises : (i j : ℕ) → i < j → j < e .loops → e .loop i .first < e .loop j .first
+  pub nested : (i j : ℕ) → i < j → j < e .loops → e .loop j .first ≤ e .loop i .last → e .loop j .last ≤ e .loop i .last
