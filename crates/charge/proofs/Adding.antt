@@ -1,4 +1,4 @@
--- The laws of the loop that adds the facts. Assumes nothing.
+-- The laws of the loop that adds the facts.
 use Prim.Native.Nat.{ℕ, _+_, _%_, _≤_, _<_}
 use native.Mathlib.Omega.{arith}
 use native.Mathlib.Numerals.{add-one}
@@ -7,7 +7,7 @@ use mathlib.Core.List.{List}
 use lib.ListN.{set}
 use Rattle.paper.specs.declared.Trailer.{Trailer}
 use Rattle.paper.specs.Bounds.{covers}
-use Rattle.paper.specs.Files.{u16At, endAt, factAt, factEnd, factPlace, caseOf}
+use Rattle.paper.specs.Files.{endAt, factAt, factEnd, factPlace, caseOf}
 use Rattle.paper.proofs.Meaning.{SoundHead}
 use Rattle.charge.specs.Ready.{Ready}
 use Rattle.charge.specs.Tables.{plus, placeOf, Open, Limits, Lowered, Covered, FactsAdded, Part, costOf}
@@ -56,7 +56,7 @@ module _ (f : List ℕ) (t : Trailer) (old : List ℕ) (i p : ℕ) (cover charge
           (λ j q. let s = fact-small f t (r .laid) (r .sound) j (omega arith) in (s .0, omega (arith, s .1))))
 
       pub adding-more :
-          (new charged′ entered′ : List ℕ) → Lowered (caseOf f t) (covers (caseOf f t) (factAt f p)) (u16At f (p + 4)) cover new
+          (new charged′ entered′ : List ℕ) → Lowered (caseOf f t) (covers (caseOf f t) (factAt f p)) (factAt f p .limit) cover new
           → charged′ ≡ plus charged (k .block % t .sets) (k .bound) → entered′ ≡ plus entered (placeOf (k .block % t .sets) (k .limit)) (k .entries)
           → Adding f t old (i + 1) (k .next) new charged′ entered′ (set bounds (65 + i) (k .bound))
       unfolding caseOf costOf factPlace

@@ -1,5 +1,5 @@
--- What one fact costs: the code's numbers are the paper's. Assumes nothing.
-use Prim.Native.Nat.{ℕ, _+_, _-_, _*_, _≤_, _<_}
+-- What one fact costs: the code's numbers are the paper's.
+use Prim.Native.Nat.{ℕ, _+_, _-_, _≤_, _<_}
 use native.Mathlib.Omega.{arith}
 use native.Mathlib.Decide.{ℕ-discrete}
 use mathlib.Core.Path.{_≡_, refl, _∙_}
@@ -13,7 +13,7 @@ use Rattle.paper.specs.Machines.{none}
 use Rattle.paper.specs.Cases.{inside, rangeOf}
 use Rattle.paper.specs.Graphs.{entries}
 use Rattle.paper.specs.Bounds.{boundOf, covers, counts, factBound}
-use Rattle.paper.specs.Files.{u16At, endAt, factAt, loopAt, factEnd, caseOf}
+use Rattle.paper.specs.Files.{endAt, headEnd, rowPlace, factAt, loopAt, factEnd, caseOf}
 use Rattle.charge.specs.Ready.{Ready}
 use Rattle.charge.specs.Tables.{entriesIn, fetchesIn, visitsIn, Lowered, costOf}
 use Rattle.charge.specs.declared.facts.Cost.{Cost}
@@ -32,15 +32,15 @@ scope-fits f t c w s r h e =
 
 module _ (f : List ℕ) (t : Trailer) (p : ℕ) where
   -- the head of a fact that ends before the trailer
-  pub head-room : factEnd f t p ≤ endAt f → p + 6 ≤ length f
+  pub head-room : factEnd f t p ≤ endAt f → headEnd p ≤ length f
   unfolding factEnd
   head-room h = omega arith
 
-  entries-are : (w E : ℕ) → w ≡ u16At f p → E ≡ entriesIn (caseOf f t) w → E ≡ entries (caseOf f t) (factAt f p)
+  entries-are : (w E : ℕ) → w ≡ factAt f p .scope → E ≡ entriesIn (caseOf f t) w → E ≡ entries (caseOf f t) (factAt f p)
   unfolding entriesIn entries
   entries-are w E ew eE = eE ∙ rw ew refl
 
-  module _ (w b : ℕ) (s : Loop) (ew : w ≡ u16At f p) (eb : b ≡ u16At f (p + 2)) (es : s ≡ rangeOf (t .nodes) (loopAt f t) w) where
+  module _ (w b : ℕ) (s : Loop) (ew : w ≡ factAt f p .scope) (eb : b ≡ factAt f p .block) (es : s ≡ rangeOf (t .nodes) (loopAt f t) w) where
     covers-are : (v : ℕ) → fetchesIn (caseOf f t) (s .first) (s .last) b v ≡ covers (caseOf f t) (factAt f p) v
     unfolding fetchesIn covers inside caseOf
     covers-are v = rw (es, ew, eb) refl
@@ -50,24 +50,24 @@ module _ (f : List ℕ) (t : Trailer) (p : ℕ) where
     visits-are N e = e ∙ rw (es, ew, eb) refl
 
     bound-is :
-        (l E N x : ℕ) → l ≡ u16At f (p + 4) → E ≡ entriesIn (caseOf f t) w → N ≡ visitsIn (caseOf f t) (s .first) (s .last) b
+        (l E N x : ℕ) → l ≡ factAt f p .limit → E ≡ entriesIn (caseOf f t) w → N ≡ visitsIn (caseOf f t) (s .first) (s .last) b
         → x ≡ boundOf (t .policy) (t .ways) l E N → x ≡ factBound (caseOf f t) (factAt f p)
     unfolding factBound caseOf
     bound-is l E N x el eE eN e = e ∙ rw (el, entries-are w E ew eE, visits-are N eN) refl
 
     pub cost-is :
-        (l E N x n : ℕ) → l ≡ u16At f (p + 4) → E ≡ entriesIn (caseOf f t) w → N ≡ visitsIn (caseOf f t) (s .first) (s .last) b
+        (l E N x n : ℕ) → l ≡ factAt f p .limit → E ≡ entriesIn (caseOf f t) w → N ≡ visitsIn (caseOf f t) (s .first) (s .last) b
         → x ≡ boundOf (t .policy) (t .ways) l E N → n ≡ factEnd f t p
         → _≡_ {A = Cost} (record { block = b; limit = l; entries = E; bound = x; next = n }) (costOf f t p)
     unfolding costOf
     cost-is l E N x n el eE eN ex en = rw (bound-is l E N x el eE eN ex, entries-are w E ew eE, el, eb, en) refl
 
     pub lowered-is :
-        (l : ℕ) (old new : List ℕ) → l ≡ u16At f (p + 4) → Lowered (caseOf f t) (fetchesIn (caseOf f t) (s .first) (s .last) b) l old new
-        → Lowered (caseOf f t) (covers (caseOf f t) (factAt f p)) (u16At f (p + 4)) old new
+        (l : ℕ) (old new : List ℕ) → l ≡ factAt f p .limit → Lowered (caseOf f t) (fetchesIn (caseOf f t) (s .first) (s .last) b) l old new
+        → Lowered (caseOf f t) (covers (caseOf f t) (factAt f p)) (factAt f p .limit) old new
     lowered-is l old new el h =
         record { room = h .room; is = λ v q. h .is v q ∙ rw (covers-are v, el) refl }
 
-    pub end-is : (x : ℕ) → s .first ≤ s .last → x ≡ p + 6 + 16 * (s .last - s .first + 1) → x ≡ factEnd f t p
+    pub end-is : (x : ℕ) → s .first ≤ s .last → x ≡ rowPlace p (s .last - s .first + 1) → x ≡ factEnd f t p
     unfolding factEnd
     end-is x l e = rw (← ew, ← es) (e ∙ omega arith)

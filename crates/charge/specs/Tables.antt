@@ -11,7 +11,7 @@ use Rattle.paper.specs.Machines.{none}
 use Rattle.paper.specs.Cases.{Case}
 use Rattle.paper.specs.Graphs.{count, entries, entriesOf}
 use Rattle.paper.specs.Bounds.{covers, factBound, setBound}
-use Rattle.paper.specs.Files.{u16At, factAt, factEnd, caseOf}
+use Rattle.paper.specs.Files.{factAt, factEnd, caseOf}
 use Rattle.charge.specs.declared.facts.Cost.{Cost}
 
 -- Element j of the list is the sum of the amounts below n whose key is j.
@@ -127,8 +127,8 @@ module _ (e : Case) where
 unfoldable pub costOf : List ℕ → Trailer → ℕ → Cost
 costOf f t p =
     record {
-      block = u16At f (p + 2);
-      limit = u16At f (p + 4);
+      block = factAt f p .block;
+      limit = factAt f p .limit;
       entries = entries (caseOf f t) (factAt f p);
       bound = factBound (caseOf f t) (factAt f p);
       next = factEnd f t p;

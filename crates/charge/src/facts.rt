@@ -1,7 +1,7 @@
 // The pass over the facts: what each costs, and the nodes that it covers.
 ghost use mathlib.Core.Path.{_≡_};
 ghost use mathlib.Core.Logic.{_≢_};
-ghost use Prim.Native.Nat.{_+_, _<_, _≤_};
+ghost use Prim.Native.Nat.{_<_, _≤_};
 ghost use Rattle.paper.specs.Bounds as Bounds;
 ghost use Rattle.paper.specs.Files as Files;
 ghost use Rattle.paper.proofs.Meaning.{SoundHead};
@@ -51,11 +51,11 @@ fn charge_fact(
     requires { ⌜ Files.factEnd (now file) t p ≤ Files.endAt (now file) ⌝ }
     requires { ⌜ Tables.Limits (Files.caseOf (now file) t) (now cover) ⌝ }
     ensures { λ r. ⌜ r ≡ Tables.costOf (now (file .entry)) t p ⌝ }
-    ensures { λ r. ⌜ Tables.Lowered (Files.caseOf (now (file .entry)) t) (Bounds.covers (Files.caseOf (now (file .entry)) t) (Files.factAt (now (file .entry)) p)) (Files.u16At (now (file .entry)) (p + 4)) (now (cover .entry)) (now (cover .exit)) ⌝ }
+    ensures { λ r. ⌜ Tables.Lowered (Files.caseOf (now (file .entry)) t) (Bounds.covers (Files.caseOf (now (file .entry)) t) (Files.factAt (now (file .entry)) p)) (Files.factAt (now (file .entry)) p .limit) (now (cover .entry)) (now (cover .exit)) ⌝ }
 {
-    let w = layout::u16_at(file, p);
-    let b = layout::u16_at(file, p + 2);
-    let l = layout::u16_at(file, p + 4);
+    let w = layout::scope_at(file, p);
+    let b = layout::block_at(file, p);
+    let l = layout::limit_at(file, p);
     let s = layout::range_at(file, t, w);
     let e = entries_of(file, t, counts, w);
     let n = chains::cover_nodes(file, t, counts, chain, s.first, s.last, b, l, cover);
@@ -64,7 +64,7 @@ fn charge_fact(
         limit: l,
         entries: e,
         bound: formulas::bound_of(t.policy, t.ways as u64, l as u64, e, n),
-        next: p + 6 + 16 * ((s.last - s.first) as usize + 1),
+        next: layout::row_place(file, p, s.last - s.first + 1),
     }
 }
 
@@ -89,7 +89,7 @@ pub fn charge_facts(
     ensures { λ r. ⌜ Tables.Part (Files.caseOf (now (file .entry)) t) 0 0 (t .facts) (now (bounds .entry)) (now (bounds .exit)) ⌝ }
 {
     let n = t.facts as usize;
-    let mut p = 2 * (t.nodes as usize) + 4 * (t.edges as usize) + 8 * (t.loops as usize);
+    let mut p = layout::facts_at(t);
     let mut i: usize = 0;
     while i < n {
         let c = charge_fact(file, t, counts, chain, p, cover);

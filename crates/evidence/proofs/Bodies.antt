@@ -22,19 +22,19 @@ module _ (f : List ℕ) (t : Trailer) (h : Head) (s : Stands f t h) where
   unfolding factEnd
   end-of = cc
 
-  -- 15 for a scope of m nodes, by the outcome b of its test
-  module _ (m : ℕ) (e : m ≡ nodesOf h) where
-    rows-end : h .place + 6 + 16 * m ≡ factEnd f t (h .place)
-    rows-end = rw e (sym end-of)
+  -- 15 for a scope of m nodes, whose rows are so long, by the outcome b of its test
+  module _ (m rows : ℕ) (e : m ≡ nodesOf h) (l : rows ≡ 16 * m) where
+    rows-end : h .place + 6 + rows ≡ factEnd f t (h .place)
+    rows-end = rw (l, e) (sym end-of)
 
-    module _ (b : Bool) (q : b ≡ ltb (endAt f) (h .place + 6 + 16 * m)) where
+    module _ (b : Bool) (q : b ≡ ltb (endAt f) (h .place + 6 + rows)) where
       pub cut-is : b ≡ ltb (endAt f) (factEnd f t (h .place))
       cut-is = q ∙ ap (ltb (endAt f)) rows-end
 
       pub whole : b ≡ false → Whole f h
-      whole z = record { room = omega (arith, ltb-false (endAt f) (h .place + 6 + 16 * m) (sym q ∙ z)) }
+      whole z = record { room = omega (arith, ltb-false (endAt f) (h .place + 6 + rows) (sym q ∙ z)) }
 
-      pub next-of : b ≡ false → Next f t (h .place) (record { previous = record { any = true; block = h .block; last = h .last }; end = h .place + 6 + 16 * m })
+      pub next-of : b ≡ false → Next f t (h .place) (record { previous = record { any = true; block = h .block; last = h .last }; end = h .place + 6 + rows })
       unfolding caseOf
       next-of z = record { previous-is = rw (s .block, s .last) refl; end-is = rows-end; room = ltb-false _ _ (sym q ∙ z) }
 

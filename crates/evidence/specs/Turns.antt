@@ -1,11 +1,11 @@
 -- "then for each fact in turn 11 to 18": what a fact's turn tells.
-use Prim.Native.Nat.{ℕ, _+_, _≤_}
+use Prim.Native.Nat.{ℕ, _≤_}
 use mathlib.Core.Path.{_≡_}
 use mathlib.Core.List.{List}
 use Rattle.paper.specs.declared.Trailer.{Trailer}
 use Rattle.paper.specs.declared.Verdict.{Verdict}
 use Rattle.paper.specs.declared.Verdict.the-variants as Verdicts
-use Rattle.paper.specs.Files.{u16At, endAt, factAt, factEnd, caseOf}
+use Rattle.paper.specs.Files.{endAt, factAt, factEnd, caseOf}
 use Rattle.paper.specs.Facts.{previousOf}
 use Rattle.evidence.specs.declared.Names.{Names}
 use Rattle.evidence.specs.declared.Kept.{Kept}
@@ -14,7 +14,7 @@ use Rattle.evidence.specs.declared.Turn.the-variants as Turns
 
 -- what the fact that stands at p names
 abbrev pub namesAt : List ℕ → ℕ → Names
-namesAt f p = record { scope = u16At f p; block = u16At f (p + 2); limit = u16At f (p + 4) }
+namesAt f p = record { scope = factAt f p .scope; block = factAt f p .block; limit = factAt f p .limit }
 
 abbrev pub verdictOf : Turn → Verdict
 verdictOf (Turns.Kept k) = Verdicts.Accepted

@@ -3,12 +3,13 @@ ghost use mathlib.Core.Path.{_≡_};
 ghost use Prim.Native.Nat.{_+_, _≤_};
 ghost use lib.Dec.{ltb};
 ghost use Rattle.paper.specs.Facts as Facts;
-ghost use Rattle.paper.specs.Files.{endAt, caseOf};
+ghost use Rattle.paper.specs.Files.{endAt, headEnd, caseOf};
 ghost use Rattle.paper.specs.Known.{Laid, Shaped};
 ghost use Rattle.paper.specs.Verdicts as Verdicts;
 ghost use Rattle.fact.specs.Stands.{Stands};
 ghost use Rattle.evidence.specs.Turns.{namesAt, Told};
 use fact::Head;
+use layout::HEAD_SIZE;
 use paper::Previous;
 use paper::Refusal;
 use paper::Trailer;
@@ -38,18 +39,18 @@ pub fn short_of(file: &[u8], t: Trailer, p: usize, n: usize) -> bool
     requires { ⌜ p ≤ endAt (now file) ⌝ }
     ensures { λ r. ⌜ r ≡ ltb (endAt (now (file .entry))) (p + n) ⌝ }
 {
-    file.len() - 32 - p < n
+    layout::end_of(file) - p < n
 }
 
 pub fn names_at(file: &[u8], t: Trailer, p: usize) -> Names
     requires { ⌜ Laid (now file) t ⌝ }
-    requires { ⌜ p + 6 ≤ endAt (now file) ⌝ }
+    requires { ⌜ headEnd p ≤ endAt (now file) ⌝ }
     ensures { λ r. ⌜ r ≡ namesAt (now (file .entry)) p ⌝ }
 {
     Names {
-        scope: layout::u16_at(file, p),
-        block: layout::u16_at(file, p + 2),
-        limit: layout::u16_at(file, p + 4),
+        scope: layout::scope_at(file, p),
+        block: layout::block_at(file, p),
+        limit: layout::limit_at(file, p),
     }
 }
 
@@ -67,19 +68,19 @@ pub fn wrong_order(previous: Previous, b: u16, first: u16) -> bool
     previous.any & ((b < previous.block) | ((b == previous.block) & (first <= previous.last)))
 }
 
-// 14 to 18, for fact i, which is the one at hand and of which the first 6 bytes are there.
+// 14 to 18, for fact i, which is the one at hand and whose head is there.
 fn weigh(file: &[u8], t: Trailer, i: u16, h: Head) -> Turn
     requires { ⌜ Laid (now file) t ⌝ }
     requires { ⌜ Shaped (caseOf (now file) t) ⌝ }
     requires { ⌜ Stands (now file) t h ⌝ }
-    requires { ⌜ h .place + 6 ≤ endAt (now file) ⌝ }
+    requires { ⌜ headEnd (h .place) ≤ endAt (now file) ⌝ }
     ensures { λ r. ⌜ Told (now (file .entry)) t (h .place) (Verdicts.bodyRules (now (file .entry)) t i (h .place)) r ⌝ }
 {
     if fact::unfetched(file, t, h) {
         return Turn::Refused(paper::refuse(14, i as usize));
     }
-    let begin = h.place + 6;
-    let rows = 16 * (fact::nodes_of(h) as usize);
+    let begin = h.place + HEAD_SIZE;
+    let rows = layout::rows_size(fact::nodes_of(h));
     if short_of(file, t, begin, rows) {
         return Turn::Refused(paper::refuse(15, i as usize));
     }
@@ -104,7 +105,7 @@ pub fn turn_of(file: &[u8], t: Trailer, i: u16, previous: Previous, p: usize) ->
     requires { ⌜ p ≤ endAt (now file) ⌝ }
     ensures { λ r. ⌜ Told (now (file .entry)) t p (Verdicts.turnRules (now (file .entry)) t i previous p) r ⌝ }
 {
-    if short_of(file, t, p, 6) {
+    if short_of(file, t, p, HEAD_SIZE) {
         return Turn::Refused(paper::refuse(11, i as usize));
     }
     let n = names_at(file, t, p);
@@ -137,7 +138,7 @@ pub fn fact_rules(file: &[u8], t: Trailer) -> Verdict
     requires { ⌜ Shaped (caseOf (now file) t) ⌝ }
     ensures { λ r. ⌜ r ≡ Verdicts.factRules (now (file .entry)) t Verdict.Accepted ⌝ }
 {
-    let mut p: usize = 2 * (t.nodes as usize) + 4 * (t.edges as usize) + 8 * (t.loops as usize);
+    let mut p: usize = layout::facts_at(t);
     let mut previous = Previous {
         any: false,
         block: 0,
@@ -155,7 +156,7 @@ pub fn fact_rules(file: &[u8], t: Trailer) -> Verdict
             }
         }
     }
-    if p < file.len() - 32 {
+    if p < layout::end_of(file) {
         return Verdict::Refused(paper::refuse(19, 0));
     }
     Verdict::Accepted

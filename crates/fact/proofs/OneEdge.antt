@@ -1,5 +1,5 @@
 -- Rule 17 for one edge, branch by branch.
-use Prim.Native.Nat.{ℕ, _+_, _*_, _≤_, _<_}
+use Prim.Native.Nat.{ℕ, _≤_, _<_}
 use native.Mathlib.Omega.{arith}
 use native.Mathlib.Decide.{ℕ-discrete}
 use mathlib.Core.Path.{_≡_, refl, sym, _∙_}
@@ -10,20 +10,20 @@ use borrow.Author.Tests.{lt-leb, le-leb, eq-eqb, ne-eqb}
 use lib.Dec.{eqb, leb}
 use Rattle.paper.specs.Lists.{some}
 use Rattle.paper.specs.declared.Trailer.{Trailer}
-use Rattle.paper.specs.Files.{u16At, rowAt, caseOf}
+use Rattle.paper.specs.Files.{rowPlace, rowAt, caseOf}
 use Rattle.paper.specs.Facts.{held, lacks, breaks}
 use Rattle.fact.specs.declared.Head.{Head}
 use Rattle.fact.specs.Stands.{Stands, factOf}
 use Rattle.fact.specs.Rows.{missing, forgets, breaksAt}
 use Rattle.paper.proofs.RowLaws.{held-set}
 
-module _ (f : List ℕ) (t : Trailer) (h : Head) (p : Stands f t h) (x i j s m : ℕ) (sj : s ≡ h .place + 6 + 16 * j) (b : m ≡ u16At f s) where
+module _ (f : List ℕ) (t : Trailer) (h : Head) (p : Stands f t h) (x i j s m : ℕ) (sj : s ≡ rowPlace (h .place) j) (b : m ≡ rowAt f s .number) where
   -- "u fetches b: row v is not 9"
   pub breaks-b : x ≡ h .block → eqb m 9 ≡ breaksAt f t h x i j
   unfolding breaks
   breaks-b q = rw (eq-eqb _ _ (q ∙ p .block), ← sj, ← b) refl
 
-  module _ (q : x ≢ h .block) (r n : ℕ) (ri : r ≡ h .place + 6 + 16 * i) (a : n ≡ u16At f r) where
+  module _ (q : x ≢ h .block) (r n : ℕ) (ri : r ≡ rowPlace (h .place) i) (a : n ≡ rowAt f r .number) where
     other :
         breaksAt f t h x i j
         ≡ cond (eqb n 9) false

@@ -1,5 +1,5 @@
 -- Rule 16 for one row, branch by branch.
-use Prim.Native.Nat.{ℕ, _+_, _*_, _≤_, _<_}
+use Prim.Native.Nat.{ℕ, _+_, _≤_, _<_}
 use native.Mathlib.Omega.{arith}
 use mathlib.Core.Path.{_≡_, refl, sym, _∙_}
 use mathlib.Core.Bool.{Bool, true, false}
@@ -9,7 +9,8 @@ use mathlib.Core.List.{List}
 use Rattle.paper.specs.declared.Trailer.{Trailer}
 use Rattle.paper.specs.Lists.{some}
 use Rattle.paper.specs.Cases.{Row, Case, Fact}
-use Rattle.paper.specs.Files.{u16At, rowAt, caseOf}
+use Rattle.paper.specs.Records.{rowSize}
+use Rattle.paper.specs.Files.{rowPlace, rowAt, caseOf}
 use Rattle.paper.specs.Facts.{badSlot, badRow}
 use Rattle.paper.proofs.Least.{none-some, is-some, some-is}
 use Rattle.paper.proofs.Meaning.{SoundRow}
@@ -62,14 +63,14 @@ module _ (e : Case) (t : Fact) (r : Row) (n : ℕ) (q : n ≡ r .number) where
             a ∙ rest-test n r e t (held-set r (omega arith) ∙ sym q) (none-some (badSlot e t r) n (sym w ∙ z)) ∙ sym slots
 
 -- the row of the scope's node j, once rule 16 is passed
-module _ (f : List ℕ) (t : Trailer) (h : Head) (w : SoundRows f t h) (j at n : ℕ) (l : j < nodesOf h) (q : at ≡ h .place + 6 + 16 * j) (a : n ≡ u16At f at) where
+module _ (f : List ℕ) (t : Trailer) (h : Head) (w : SoundRows f t h) (j at n : ℕ) (l : j < nodesOf h) (q : at ≡ rowPlace (h .place) j) (a : n ≡ rowAt f at .number) where
   sound-at : SoundRow (caseOf f t) (factOf f h) (rowAt f at)
   sound-at = row-law (caseOf f t) (factOf f h) (rowAt f at) .0 (row-is (caseOf f t) f (h .place) j at q ∙ w .sound j l)
 
   pub number-at : n ≤ 9
   number-at = omega (arith, sound-at .number)
 
-  pub rising-at : n < 8 → at + 16 ≤ length f → RisingAt f at n
+  pub rising-at : n < 8 → at + rowSize ≤ length f → RisingAt f at n
   rising-at z o =
       let s : SetAt f at n = record { room = o; few = z; number = a } in
       record { set = s; rises = λ k y. sound-at .rising k (omega (arith, set-held s)) }

@@ -1,5 +1,5 @@
 -- The scope of the fact at hand, as the paper's definitions have it.
-use Prim.Native.Nat.{ℕ, _+_, _*_, _%_, _≤_, _<_}
+use Prim.Native.Nat.{ℕ, _%_, _≤_, _<_}
 use native.Mathlib.Omega.{arith}
 use mathlib.Core.Path.{_≡_, refl, _∙_, ap}
 use mathlib.Core.Bool.{Bool, not}
@@ -7,7 +7,7 @@ use mathlib.Core.List.{List}
 use Rattle.paper.specs.declared.Trailer.{Trailer}
 use Rattle.paper.specs.declared.Verdict.the-variants.{Accepted}
 use Rattle.paper.specs.Cases.{Case, scopeOf, size, fetches}
-use Rattle.paper.specs.Files.{rowAt, factAt, caseOf}
+use Rattle.paper.specs.Files.{rowPlace, rowAt, factAt, caseOf}
 use Rattle.paper.specs.Lists.{some}
 use Rattle.paper.specs.Facts.{unfetched, badRow, badRowAt, badStepAt, badManyAt}
 use Rattle.paper.specs.Rules.{rule}
@@ -45,6 +45,6 @@ module _ (f : List ℕ) (t : Trailer) (h : Head) (s : Stands f t h) where
   evidence-is i a b c x y z = cc (scope-size, edges-is)
 
 -- the row of the scope's node j, where it stands
-pub row-is : (e : Case) (f : List ℕ) (p j at : ℕ) → at ≡ p + 6 + 16 * j → badRow e (factAt f p) (rowAt f at) ≡ badRowAt e (factAt f p) j
+pub row-is : (e : Case) (f : List ℕ) (p j at : ℕ) → at ≡ rowPlace p j → badRow e (factAt f p) (rowAt f at) ≡ badRowAt e (factAt f p) j
 unfolding badRowAt
 row-is e f p j at q = rw q refl

@@ -8,16 +8,17 @@ use lib.Dec.{eqb, leb}
 use Rattle.paper.specs.declared.Trailer.{Trailer}
 use Rattle.paper.specs.Machines.{none}
 use Rattle.paper.specs.Cases.{Row, Fact, Case, sameSet}
-use Rattle.paper.specs.Files.{u16At, rowAt, caseOf}
+use Rattle.paper.specs.Records.{rowSize}
+use Rattle.paper.specs.Files.{rowAt, caseOf}
 use Rattle.paper.specs.Facts.{holds, breaks}
 use Rattle.fact.specs.declared.Head.{Head}
 use Rattle.fact.specs.Stands.{factOf}
 
 -- A set of n blocks stands at `at`.
 pub record SetAt (f : List ℕ) (at n : ℕ) : Type 0 where
-  pub room : at + 16 ≤ length f
+  pub room : at + rowSize ≤ length f
   pub few : n < 8
-  pub number : n ≡ u16At f at
+  pub number : n ≡ rowAt f at .number
 
 -- The same, and it is "strictly rising".
 pub record RisingAt (f : List ℕ) (at n : ℕ) : Type 0 where

@@ -2,6 +2,7 @@
 ghost use mathlib.Core.Path.{_≡_};
 ghost use Prim.Native.Nat.{_<_, _≤_};
 ghost use Rattle.paper.specs.Lists.{some};
+ghost use Rattle.paper.specs.Ceilings.{mostNodes};
 ghost use Rattle.paper.specs.Files as Files;
 ghost use Rattle.paper.specs.Facts as Facts;
 ghost use Rattle.paper.specs.Cases as Cases;
@@ -30,9 +31,9 @@ pub struct Head {
 
 pub fn nodes_of(h: Head) -> u16
     requires { ⌜ h .first ≤ h .last ⌝ }
-    requires { ⌜ h .last < 1024 ⌝ }
+    requires { ⌜ h .last < mostNodes ⌝ }
     ensures { λ r. ⌜ r ≡ nodesOf h ⌝ }
-    ensures { λ r. ⌜ r ≤ 1024 ⌝ }
+    ensures { λ r. ⌜ r ≤ mostNodes ⌝ }
 {
     h.last + 1 - h.first
 }
@@ -71,7 +72,7 @@ fn bad_many(file: &[u8], t: Trailer, h: Head, j: u16) -> bool
     ensures { λ r. ⌜ r ≡ Facts.badManyAt (Files.caseOf (now (file .entry)) t) (factOf (now (file .entry)) h) j ⌝ }
 {
     if fetches(file, t, h, j) {
-        return layout::u16_at(file, row_at(file, h, j)) == 8;
+        return layout::number_at(file, row_at(file, h, j)) == 8;
     }
     false
 }

@@ -1,10 +1,11 @@
 // Rule 16: the rows of a fact, where they stand and what they may be.
 ghost use mathlib.Core.Path.{_≡_};
-ghost use Prim.Native.Nat.{_+_, _*_, _<_, _≤_};
+ghost use Prim.Native.Nat.{_+_, _<_, _≤_};
 ghost use lib.ListN.{length};
 ghost use Rattle.paper.specs.Lists.{some};
 ghost use Rattle.paper.specs.Files as Files;
 ghost use Rattle.paper.specs.Facts as Facts;
+ghost use Rattle.paper.specs.Records.{rowSize};
 ghost use Rattle.paper.specs.Known.{Laid};
 ghost use Rattle.fact.specs.Stands.{factOf, nodesOf, Stands, Whole};
 ghost use Rattle.fact.specs.Rows.{SetAt, unfree};
@@ -16,18 +17,10 @@ use paper::Trailer;
 pub fn row_at(file: &[u8], h: Head, j: u16) -> usize
     requires { ⌜ Whole (now file) h ⌝ }
     requires { ⌜ j < nodesOf h ⌝ }
-    ensures { λ r. ⌜ r ≡ h .place + 6 + 16 * j ⌝ }
-    ensures { λ r. ⌜ r + 16 ≤ length (now (file .entry)) ⌝ }
+    ensures { λ r. ⌜ r ≡ Files.rowPlace (h .place) j ⌝ }
+    ensures { λ r. ⌜ r + rowSize ≤ length (now (file .entry)) ⌝ }
 {
-    h.place + 6 + 16 * (j as usize)
-}
-
-pub fn slot_at(file: &[u8], at: usize, k: u16) -> u16
-    requires { ⌜ at + 16 ≤ length (now file) ⌝ }
-    requires { ⌜ k < 7 ⌝ }
-    ensures { λ r. ⌜ r ≡ Files.rowAt (now (file .entry)) at .slot k ⌝ }
-{
-    layout::u16_at(file, at + 2 + 2 * (k as usize))
+    layout::row_place(file, h.place, j)
 }
 
 // "strictly rising, each of b's set, none equal to b or none": one of the n blocks of the row at `at` is not so.
@@ -40,7 +33,7 @@ fn bad_blocks(file: &[u8], t: Trailer, h: Head, at: usize, n: u16) -> bool
     let mut low: u16 = 0;
     let mut k: u16 = 0;
     while k < n {
-        let x = slot_at(file, at, k);
+        let x = layout::slot_at(file, at, k);
         if (x == 65535) | ((x == h.block) | ((paper::home(x, t.sets) != h.home) | (x < low))) {
             return true;
         }
@@ -52,13 +45,13 @@ fn bad_blocks(file: &[u8], t: Trailer, h: Head, at: usize, n: u16) -> bool
 
 // "free slots are 65,535": one of the slots from n on is not.
 fn bad_rest(file: &[u8], at: usize, n: u16) -> bool
-    requires { ⌜ at + 16 ≤ length (now file) ⌝ }
+    requires { ⌜ at + rowSize ≤ length (now file) ⌝ }
     requires { ⌜ n < 8 ⌝ }
     ensures { λ r. ⌜ r ≡ some (unfree n (Files.rowAt (now (file .entry)) at)) 7 ⌝ }
 {
     let mut k: u16 = n;
     while k < 7 {
-        if slot_at(file, at, k) != 65535 {
+        if layout::slot_at(file, at, k) != 65535 {
             return true;
         }
         k += 1;
@@ -74,7 +67,7 @@ fn bad_row(file: &[u8], t: Trailer, h: Head, j: u16) -> bool
     ensures { λ r. ⌜ r ≡ Facts.badRowAt (Files.caseOf (now (file .entry)) t) (factOf (now (file .entry)) h) j ⌝ }
 {
     let at = row_at(file, h, j);
-    let n = layout::u16_at(file, at);
+    let n = layout::number_at(file, at);
     if 9 < n {
         return true;
     }

@@ -10,7 +10,6 @@ ghost use Rattle.fact.specs.Edges.{Splits, From};
 ghost use Rattle.fact.specs.Rows.{SetAt, RisingAt, missing, forgets, breaksAt};
 use crate::Head;
 use crate::rows::row_at;
-use crate::rows::slot_at;
 use paper::Trailer;
 
 // The row at `at`, a set of n blocks, holds x.
@@ -20,7 +19,7 @@ fn holds(file: &[u8], at: usize, n: u16, x: u16) -> bool
 {
     let mut k: u16 = 0;
     while k < n {
-        if slot_at(file, at, k) == x {
+        if layout::slot_at(file, at, k) == x {
             return true;
         }
         k += 1;
@@ -40,8 +39,8 @@ fn drops(file: &[u8], r: usize, n: u16, s: usize, m: u16) -> bool
         if m <= j {
             return true;
         }
-        let x = slot_at(file, r, i);
-        let y = slot_at(file, s, j);
+        let x = layout::slot_at(file, r, i);
+        let y = layout::slot_at(file, s, j);
         if x < y {
             return true;
         }
@@ -79,12 +78,12 @@ fn breaks(file: &[u8], t: Trailer, h: Head, x: u16, i: u16, j: u16) -> bool
     ensures { λ b. ⌜ b ≡ breaksAt (now (file .entry)) t h x i j ⌝ }
 {
     let s = row_at(file, h, j);
-    let m = layout::u16_at(file, s);
+    let m = layout::number_at(file, s);
     if x == h.block {
         return m == 9;
     }
     let r = row_at(file, h, i);
-    let n = layout::u16_at(file, r);
+    let n = layout::number_at(file, r);
     if n == 9 {
         return false;
     }

@@ -4,15 +4,47 @@ ghost use Prim.Native.Nat.{_≤_};
 ghost use lib.ListN.{length};
 ghost use Rattle.paper.specs.Files as Files;
 ghost use Rattle.paper.specs.Lists as Lists;
+ghost use Rattle.paper.specs.Records as Records;
 ghost use Rattle.layout.specs.Layouts as Layouts;
 
 mod bytes;
+mod facts;
+mod places;
 mod sections;
 
 pub use bytes::u16_at;
 pub use bytes::u32_at;
+pub use facts::block_at;
+pub use facts::limit_at;
+pub use facts::number_at;
+pub use facts::scope_at;
+pub use facts::slot_at;
+use paper::MOST_EDGES;
+use paper::MOST_FACTS;
+use paper::MOST_LOOPS;
+use paper::MOST_NODES;
 use paper::Refusal;
 use paper::Trailer;
+use places::EDGES_FIELD;
+use places::EDGES_OFFSET;
+use places::FACTS_FIELD;
+use places::FACTS_OFFSET;
+pub use places::HEAD_SIZE;
+use places::LETTERS_FIELD;
+use places::LOOPS_FIELD;
+use places::LOOPS_OFFSET;
+use places::NODES_FIELD;
+use places::POLICY_FIELD;
+use places::SETS_FIELD;
+pub use places::TRAILER_SIZE;
+use places::VERSION_FIELD;
+use places::WAYS_FIELD;
+use places::edges_at;
+pub use places::end_of;
+pub use places::facts_at;
+use places::loops_at;
+pub use places::row_place;
+pub use places::rows_size;
 pub use sections::from_at;
 pub use sections::loop_at;
 pub use sections::node_at;
@@ -27,14 +59,14 @@ pub enum Layout {
 
 // "then the four letters QMBT": the first that is another, or 4.
 fn wrong_letter(file: &[u8]) -> usize
-    requires { ⌜ 32 ≤ length (now file) ⌝ }
+    requires { ⌜ Records.trailerSize ≤ length (now file) ⌝ }
     ensures { λ r. ⌜ r ≡ Lists.least (Files.badLetter (now (file .entry))) 4 ⌝ }
 {
     let letters = b"QMBT";
-    let end = file.len() - 32;
+    let end = end_of(file);
     let mut k = 0;
     while k < 4 {
-        if file[end + 28 + k] != letters[k] {
+        if file[end + LETTERS_FIELD + k] != letters[k] {
             return k;
         }
         k += 1;
@@ -43,26 +75,26 @@ fn wrong_letter(file: &[u8]) -> usize
 }
 
 fn bad_letters(file: &[u8]) -> bool
-    requires { ⌜ 32 ≤ length (now file) ⌝ }
+    requires { ⌜ Records.trailerSize ≤ length (now file) ⌝ }
     ensures { λ r. ⌜ r ≡ Files.badLetters (now (file .entry)) ⌝ }
 {
-    let end = file.len() - 32;
-    (wrong_letter(file) < 4) | !(file[end + 27] == 1)
+    let end = end_of(file);
+    (wrong_letter(file) < 4) | !(file[end + VERSION_FIELD] == 1)
 }
 
 fn trailer_of(file: &[u8]) -> Trailer
-    requires { ⌜ 32 ≤ length (now file) ⌝ }
+    requires { ⌜ Records.trailerSize ≤ length (now file) ⌝ }
     ensures { λ r. ⌜ r ≡ Files.trailerOf (now (file .entry)) ⌝ }
 {
-    let end = file.len() - 32;
+    let end = end_of(file);
     Trailer {
-        nodes: u16_at(file, end + 16),
-        edges: u16_at(file, end + 18),
-        loops: u16_at(file, end + 20),
-        facts: u16_at(file, end + 22),
-        policy: file[end + 24],
-        ways: file[end + 25],
-        sets: file[end + 26],
+        nodes: u16_at(file, end + NODES_FIELD),
+        edges: u16_at(file, end + EDGES_FIELD),
+        loops: u16_at(file, end + LOOPS_FIELD),
+        facts: u16_at(file, end + FACTS_FIELD),
+        policy: file[end + POLICY_FIELD],
+        ways: file[end + WAYS_FIELD],
+        sets: file[end + SETS_FIELD],
     }
 }
 
@@ -75,27 +107,28 @@ fn bad_cache(t: Trailer) -> bool
 fn bad_numbers(t: Trailer) -> bool
     ensures { λ r. ⌜ r ≡ Files.badNumbers t ⌝ }
 {
-    (t.nodes < 1) | ((1024 < t.nodes) | ((4096 < t.edges) | ((64 < t.loops) | (256 < t.facts))))
+    (t.nodes < 1)
+        | ((MOST_NODES < t.nodes as usize)
+            | ((MOST_EDGES < t.edges as usize)
+                | ((MOST_LOOPS < t.loops as usize) | (MOST_FACTS < t.facts as usize))))
 }
 
 fn bad_offsets(file: &[u8], t: Trailer) -> bool
-    requires { ⌜ 32 ≤ length (now file) ⌝ }
+    requires { ⌜ Records.trailerSize ≤ length (now file) ⌝ }
     ensures { λ r. ⌜ r ≡ Files.badOffsets (now (file .entry)) t ⌝ }
 {
-    let end = file.len() - 32;
-    let edges = 2 * (t.nodes as usize);
-    let loops = edges + 4 * (t.edges as usize);
-    let facts = loops + 8 * (t.loops as usize);
+    let end = end_of(file);
+    let facts = facts_at(t);
     !(u32_at(file, end) == 0)
-        | (!(u32_at(file, end + 4) as usize == edges)
-            | (!(u32_at(file, end + 8) as usize == loops)
-                | (!(u32_at(file, end + 12) as usize == facts) | (end < facts))))
+        | (!(u32_at(file, end + EDGES_OFFSET) as usize == edges_at(t))
+            | (!(u32_at(file, end + LOOPS_OFFSET) as usize == loops_at(t))
+                | (!(u32_at(file, end + FACTS_OFFSET) as usize == facts) | (end < facts))))
 }
 
 pub fn layout_of(file: &[u8]) -> Layout
     ensures { λ r. ⌜ r ≡ Layouts.layoutOf (now (file .entry)) ⌝ }
 {
-    if file.len() < 32 {
+    if file.len() < TRAILER_SIZE {
         return Layout::Refused(paper::refuse(1, 0));
     }
     if bad_letters(file) {

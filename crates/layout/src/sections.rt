@@ -1,4 +1,4 @@
-// Where nodes, edges and loops lie in a file that is laid out: "Sections in order, without gaps, from offset 0".
+// The nodes, edges and loops of a file that is laid out.
 ghost use mathlib.Core.Path.{_≡_};
 ghost use mathlib.Core.Logic.{_≢_};
 ghost use Prim.Native.Nat.{_<_};
@@ -7,6 +7,12 @@ ghost use Rattle.paper.specs.Cases as Cases;
 ghost use Rattle.paper.specs.Known.{Laid};
 use crate::bytes::u16_at;
 use crate::bytes::u32_at;
+use crate::places::BOUND_FIELD;
+use crate::places::LAST_FIELD;
+use crate::places::TO_FIELD;
+use crate::places::edge_place;
+use crate::places::loop_place;
+use crate::places::node_place;
 use paper::Loop;
 use paper::Trailer;
 
@@ -15,7 +21,7 @@ pub fn node_at(file: &[u8], t: Trailer, v: u16) -> u16
     requires { ⌜ v < t .nodes ⌝ }
     ensures { λ r. ⌜ r ≡ Files.nodeAt (now (file .entry)) v ⌝ }
 {
-    u16_at(file, 2 * (v as usize))
+    u16_at(file, node_place(v))
 }
 
 pub fn from_at(file: &[u8], t: Trailer, i: u16) -> u16
@@ -23,7 +29,7 @@ pub fn from_at(file: &[u8], t: Trailer, i: u16) -> u16
     requires { ⌜ i < t .edges ⌝ }
     ensures { λ r. ⌜ r ≡ Files.fromAt (now (file .entry)) t i ⌝ }
 {
-    u16_at(file, 2 * (t.nodes as usize) + 4 * (i as usize))
+    u16_at(file, edge_place(t, i))
 }
 
 pub fn to_at(file: &[u8], t: Trailer, i: u16) -> u16
@@ -31,7 +37,7 @@ pub fn to_at(file: &[u8], t: Trailer, i: u16) -> u16
     requires { ⌜ i < t .edges ⌝ }
     ensures { λ r. ⌜ r ≡ Files.toAt (now (file .entry)) t i ⌝ }
 {
-    u16_at(file, 2 * (t.nodes as usize) + 4 * (i as usize) + 2)
+    u16_at(file, edge_place(t, i) + TO_FIELD)
 }
 
 pub fn loop_at(file: &[u8], t: Trailer, j: u16) -> Loop
@@ -39,11 +45,11 @@ pub fn loop_at(file: &[u8], t: Trailer, j: u16) -> Loop
     requires { ⌜ j < t .loops ⌝ }
     ensures { λ r. ⌜ r ≡ Files.loopAt (now (file .entry)) t j ⌝ }
 {
-    let at = 2 * (t.nodes as usize) + 4 * (t.edges as usize) + 8 * (j as usize);
+    let at = loop_place(t, j);
     Loop {
         first: u16_at(file, at),
-        last: u16_at(file, at + 2),
-        bound: u32_at(file, at + 4),
+        last: u16_at(file, at + LAST_FIELD),
+        bound: u32_at(file, at + BOUND_FIELD),
     }
 }
 

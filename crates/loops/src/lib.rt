@@ -2,10 +2,12 @@
 ghost use mathlib.Core.Path.{_≡_};
 ghost use Prim.Native.Nat.{_*_, suc, _<_, _≤_};
 ghost use lib.ListN.{length, getD};
+ghost use Rattle.paper.specs.Ceilings.{mostLoops};
 ghost use Rattle.paper.specs.Known.{Laid};
 ghost use Rattle.loops.specs.Counts.{shown, factor, noLoop, countIn};
 ghost use Rattle.loops.specs.Handed.{Handed};
 use paper::Loop;
+use paper::MOST_LOOPS;
 use paper::Trailer;
 
 // The product so far, and one loop more: 0 where it is too large, and from then on.
@@ -36,15 +38,15 @@ pub fn count(loops: &[Loop], node: u16) -> u32
 }
 
 // The same over the first n of 64: they are lent for the call. (Its proof is a walk by hand.)
-pub fn count_in(loops: [Loop; 64], n: usize, node: u16) -> u32
-    requires { ⌜ n ≤ 64 ⌝ }
+pub fn count_in(loops: [Loop; MOST_LOOPS], n: usize, node: u16) -> u32
+    requires { ⌜ n ≤ mostLoops ⌝ }
     ensures { λ r. ⌜ r ≡ shown (countIn loops n node) ⌝ }
 {
     count(&loops[..n], node)
 }
 
 // The file's loops.
-pub fn loops_of(file: &[u8], t: Trailer) -> [Loop; 64]
+pub fn loops_of(file: &[u8], t: Trailer) -> [Loop; MOST_LOOPS]
     requires { ⌜ Laid (now file) t ⌝ }
     ensures { λ r. ⌜ Handed (now (file .entry)) t r ⌝ }
 {
@@ -52,7 +54,7 @@ pub fn loops_of(file: &[u8], t: Trailer) -> [Loop; 64]
         first: 0,
         last: 0,
         bound: 0,
-    }; 64];
+    }; MOST_LOOPS];
     let mut j: u16 = 0;
     while j < t.loops {
         loops[j as usize] = layout::loop_at(file, t, j);
@@ -62,8 +64,8 @@ pub fn loops_of(file: &[u8], t: Trailer) -> [Loop; 64]
 }
 
 // The count of loop j's header over the loops up to j. Where rule 7 is kept no later loop has that header, and it is the count of each node that j is the innermost loop of.
-pub fn header_count(loops: [Loop; 64], j: u16) -> u32
-    requires { ⌜ j < 64 ⌝ }
+pub fn header_count(loops: [Loop; MOST_LOOPS], j: u16) -> u32
+    requires { ⌜ j < mostLoops ⌝ }
     ensures { λ r. ⌜ r ≡ shown (countIn loops (suc j) (getD loops j noLoop .first)) ⌝ }
 {
     let at = j as usize;

@@ -15,7 +15,9 @@ use Rattle.paper.specs.Operations.{lineSize}
 use Rattle.paper.specs.Traces.{badAccess}
 use Rattle.paper.specs.Cases.{Fact, Case, scopeOf}
 use Rattle.paper.specs.Facts.{wrongOrder, badOrder}
-use Rattle.paper.specs.Files.{u8At, u32At, endAt, letters, badLetter, badLetters, badNumbers, edgesAt, loopsAt, factsAt, badOffsets}
+use Rattle.paper.specs.Ceilings.{mostNodes, mostEdges, mostLoops, mostFacts}
+use Rattle.paper.specs.Records as Records
+use Rattle.paper.specs.Files.{u8At, u32At, endAt, letters, version, badLetter, badLetters, badNumbers, edgesAt, loopsAt, factsAt, badOffsets}
 use Rattle.paper.specs.Known.{Laid}
 use Rattle.paper.proofs.Says.{Says, holds, fails, says-bool, says-lt, says-le, says-eq, says-not, says-and, says-or, says-some, says-as, says-false, says-true}
 use Rattle.paper.proofs.States.{says-range}
@@ -39,16 +41,20 @@ unfolding badAccess
 access-says blocks i = says-eq _ _
 
 -- 2
-pub letters-says : (f : List ℕ) → Says (((k : ℕ) × (k < 4) × ¬ (u8At f (endAt f + 28 + k) ≡ getD letters k 0)) ⊎ ¬ (u8At f (endAt f + 27) ≡ 1)) (badLetters f)
+pub letters-says : (f : List ℕ) →
+    Says
+    (((k : ℕ) × (k < length letters) × ¬ (u8At f (endAt f + Records.lettersField + k) ≡ getD letters k 0))
+    ⊎ ¬ (u8At f (endAt f + Records.versionField) ≡ version))
+    (badLetters f)
 unfolding badLetters badLetter
-letters-says f = says-or (says-some (λ k. says-not (says-eq (u8At f (endAt f + 28 + k)) (getD letters k 0))) 4) (says-not (says-eq _ _))
+letters-says f = says-or (says-some (λ k. says-not (says-eq (u8At f (endAt f + Records.lettersField + k)) (getD letters k 0))) (length letters)) (says-not (says-eq _ _))
 
 -- 5
 pub offsets-says : (f : List ℕ) (t : Trailer) →
     Says
     (¬ (u32At f (endAt f) ≡ 0)
-    ⊎ (¬ (u32At f (endAt f + 4) ≡ edgesAt t)
-    ⊎ (¬ (u32At f (endAt f + 8) ≡ loopsAt t) ⊎ (¬ (u32At f (endAt f + 12) ≡ factsAt t) ⊎ (endAt f < factsAt t)))))
+    ⊎ (¬ (u32At f (endAt f + Records.edgesOffset) ≡ edgesAt t)
+    ⊎ (¬ (u32At f (endAt f + Records.loopsOffset) ≡ loopsAt t) ⊎ (¬ (u32At f (endAt f + Records.factsOffset) ≡ factsAt t) ⊎ (endAt f < factsAt t)))))
     (badOffsets f t)
 unfolding badOffsets
 offsets-says f t =
@@ -56,20 +62,20 @@ offsets-says f t =
     (says-or (says-not (says-eq _ _)) (says-or (says-not (says-eq _ _)) (says-or (says-not (says-eq _ _)) (says-lt _ _))))
 
 -- 4
-pub numbers-says : (t : Trailer) → Says ((t .nodes < 1) ⊎ ((1024 < t .nodes) ⊎ ((4096 < t .edges) ⊎ ((64 < t .loops) ⊎ (256 < t .facts))))) (badNumbers t)
+pub numbers-says : (t : Trailer) → Says ((t .nodes < 1) ⊎ ((mostNodes < t .nodes) ⊎ ((mostEdges < t .edges) ⊎ ((mostLoops < t .loops) ⊎ (mostFacts < t .facts))))) (badNumbers t)
 unfolding badNumbers
 numbers-says t = says-or (says-lt _ _) (says-or (says-lt _ _) (says-or (says-lt _ _) (says-or (says-lt _ _) (says-lt _ _))))
 
 -- A file that passes 1, 3, 4 and 5 is laid out as its trailer says.
-pub laid : (f : List ℕ) (t : Trailer) → 32 ≤ length f → inRange (t .policy) (t .ways) (t .sets) ≡ true → badNumbers t ≡ false → badOffsets f t ≡ false → Laid f t
+pub laid : (f : List ℕ) (t : Trailer) → Records.trailerSize ≤ length f → inRange (t .policy) (t .ways) (t .sets) ≡ true → badNumbers t ≡ false → badOffsets f t ≡ false → Laid f t
 laid f t long cache numbers offsets =
     let n = says-false (numbers-says t) .0 numbers in
     let c = says-true (says-range (t .policy) (t .ways) (t .sets)) cache in
     let a : ¬ (t .nodes < 1) = λ p. n (inl p) in
-    let b : ¬ (1024 < t .nodes) = λ p. n (inr (inl p)) in
-    let d : ¬ (4096 < t .edges) = λ p. n (inr (inr (inl p))) in
-    let g : ¬ (64 < t .loops) = λ p. n (inr (inr (inr (inl p)))) in
-    let h : ¬ (256 < t .facts) = λ p. n (inr (inr (inr (inr p)))) in
+    let b : ¬ (mostNodes < t .nodes) = λ p. n (inr (inl p)) in
+    let d : ¬ (mostEdges < t .edges) = λ p. n (inr (inr (inl p))) in
+    let g : ¬ (mostLoops < t .loops) = λ p. n (inr (inr (inr (inl p)))) in
+    let h : ¬ (mostFacts < t .facts) = λ p. n (inr (inr (inr (inr p)))) in
     let o : ¬ (endAt f < factsAt t) = λ q. says-false (offsets-says f t) .0 offsets (inr (inr (inr (inr q)))) in
     record {
       long = long;

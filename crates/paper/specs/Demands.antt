@@ -11,6 +11,7 @@ use Rattle.paper.specs.Cases.{Fact, Case, inside, size, scopeOf}
 use Rattle.paper.specs.Walks.{Edge, Walk, KeepsLimits}
 use Rattle.paper.specs.Runs.{LegalContent, Fetch, run, misses, ofFact, ofSet}
 use Rattle.paper.specs.Facts.{badHead, unfetched}
+use Rattle.paper.specs.Records.{rowSize}
 use Rattle.paper.specs.Files.{rowAt, readCase}
 use Rattle.paper.specs.declared.Verdict.the-variants.{Accepted}
 use Rattle.paper.specs.Rules.{Passes}
@@ -76,13 +77,13 @@ module _ (e : Case) (t : Fact) where
 
   -- the fact with these bytes as its rows, wherever they came from
   abbrev pub withRows : List ℕ → Fact
-  withRows bytes = record { scope = t .scope; block = t .block; limit = t .limit; row = λ j. rowAt bytes (16 * j) }
+  withRows bytes = record { scope = t .scope; block = t .block; limit = t .limit; row = λ j. rowAt bytes (rowSize * j) }
 
   -- "The tool accepts evidence for it if the fact, with those rows, also passes 15 to 18"
   pub record Evidence : Type 0 where
     pub rows : List ℕ
     pub bytes : Bytes rows
-    pub whole : length rows ≡ 16 * size (scopeOf e t)
+    pub whole : length rows ≡ rowSize * size (scopeOf e t)
     pub passes : Passes (evidenceRules e 0 (withRows rows))
 
 -- Evidence that the tool accepts: rows with which the file that has f's graph, and this fact alone, is accepted. `room` is the length of the lent list.

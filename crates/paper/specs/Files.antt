@@ -9,6 +9,8 @@ use Rattle.paper.specs.declared.Trailer.{Trailer}
 use Rattle.paper.specs.Lists.{some}
 use Rattle.paper.specs.Machines.{inRange}
 use Rattle.paper.specs.Cases.{Row, Fact, Case, size, rangeOf}
+use Rattle.paper.specs.Ceilings.{mostNodes, mostEdges, mostLoops, mostFacts}
+use Rattle.paper.specs.Records as Records
 
 -- "Little-endian." (Past its end a file reads as 0.)
 abbrev pub u8At : List ℕ → ℕ → ℕ
@@ -22,31 +24,35 @@ u32At f p = u16At f p + 65536 * u16At f (p + 2)
 
 -- "The last 32 bytes point back": where they begin.
 abbrev pub endAt : List ℕ → ℕ
-endAt f = length f - 32
+endAt f = length f - Records.trailerSize
 
 -- "16-bit numbers of nodes, edges, loops, facts; policy, ways, sets, version 1, one byte each"
 unfoldable pub trailerOf : List ℕ → Trailer
 trailerOf f =
     record {
-      nodes = u16At f (endAt f + 16);
-      edges = u16At f (endAt f + 18);
-      loops = u16At f (endAt f + 20);
-      facts = u16At f (endAt f + 22);
-      policy = u8At f (endAt f + 24);
-      ways = u8At f (endAt f + 25);
-      sets = u8At f (endAt f + 26);
+      nodes = u16At f (endAt f + Records.nodesField);
+      edges = u16At f (endAt f + Records.edgesField);
+      loops = u16At f (endAt f + Records.loopsField);
+      facts = u16At f (endAt f + Records.factsField);
+      policy = u8At f (endAt f + Records.policyField);
+      ways = u8At f (endAt f + Records.waysField);
+      sets = u8At f (endAt f + Records.setsField);
     }
 
 -- "the four letters QMBT"
 abbrev pub letters : List ℕ
 letters = 81 ∷ 77 ∷ 66 ∷ 84 ∷ []
 
+-- "version 1"
+abbrev pub version : ℕ
+version = 1
+
 unfoldable pub badLetter : List ℕ → ℕ → Bool
-badLetter f k = not (eqb (u8At f (endAt f + 28 + k)) (getD letters k 0))
+badLetter f k = not (eqb (u8At f (endAt f + Records.lettersField + k)) (getD letters k 0))
 
 -- 2: "letters or version wrong"
 unfoldable pub badLetters : List ℕ → Bool
-badLetters f = some (badLetter f) 4 || not (eqb (u8At f (endAt f + 27)) 1)
+badLetters f = some (badLetter f) (length letters) || not (eqb (u8At f (endAt f + Records.versionField)) version)
 
 -- 3: "policy, ways or sets out of range"
 unfoldable pub badCache : Trailer → Bool
@@ -54,54 +60,79 @@ badCache t = not (inRange (t .policy) (t .ways) (t .sets))
 
 -- 4: "Nodes 1 to 1,024, edges 0 to 4,096, loops 0 to 64, facts 0 to 256"
 unfoldable pub badNumbers : Trailer → Bool
-badNumbers t = ltb (t .nodes) 1 || (ltb 1024 (t .nodes) || (ltb 4096 (t .edges) || (ltb 64 (t .loops) || ltb 256 (t .facts))))
+badNumbers t = ltb (t .nodes) 1 || (ltb mostNodes (t .nodes) || (ltb mostEdges (t .edges) || (ltb mostLoops (t .loops) || ltb mostFacts (t .facts))))
 
--- "Sections in order, without gaps, from offset 0: nodes (16-bit block each); edges (16-bit from, 16-bit to); loops (16-bit first, 16-bit last, 32-bit B); facts"
+-- "Sections in order, without gaps, from offset 0: nodes …; edges …; loops …; facts": where each begins, and where one of its records stands
+abbrev pub nodePlace : ℕ → ℕ
+nodePlace v = Records.nodeSize * v
+
 abbrev pub edgesAt : Trailer → ℕ
-edgesAt t = 2 * t .nodes
+edgesAt t = nodePlace (t .nodes)
+
+abbrev pub edgePlace : Trailer → ℕ → ℕ
+edgePlace t i = edgesAt t + Records.edgeSize * i
 
 abbrev pub loopsAt : Trailer → ℕ
-loopsAt t = edgesAt t + 4 * t .edges
+loopsAt t = edgePlace t (t .edges)
+
+abbrev pub loopPlace : Trailer → ℕ → ℕ
+loopPlace t j = loopsAt t + Records.loopSize * j
 
 abbrev pub factsAt : Trailer → ℕ
-factsAt t = loopsAt t + 8 * t .loops
+factsAt t = loopPlace t (t .loops)
 
 -- 5: "an offset wrong, or the facts would start past the trailer"
 unfoldable pub badOffsets : List ℕ → Trailer → Bool
 badOffsets f t =
     not (eqb (u32At f (endAt f)) 0)
-    || (not (eqb (u32At f (endAt f + 4)) (edgesAt t))
-    || (not (eqb (u32At f (endAt f + 8)) (loopsAt t)) || (not (eqb (u32At f (endAt f + 12)) (factsAt t)) || ltb (endAt f) (factsAt t))))
+    || (not (eqb (u32At f (endAt f + Records.edgesOffset)) (edgesAt t))
+    || (not (eqb (u32At f (endAt f + Records.loopsOffset)) (loopsAt t)) || (not (eqb (u32At f (endAt f + Records.factsOffset)) (factsAt t)) || ltb (endAt f) (factsAt t))))
 
--- "16 bytes a row: the number and seven slots"
+-- "the number and seven slots": slot k of the row that stands at p
+abbrev pub slotPlace : ℕ → ℕ → ℕ
+slotPlace p k = p + Records.slotsField + Records.bits16 * k
+
 abbrev pub rowAt : List ℕ → ℕ → Row
-rowAt f p = record { number = u16At f p; slot = λ k. u16At f (p + 2 + 2 * k) }
+rowAt f p = record { number = u16At f p; slot = λ k. u16At f (slotPlace p k) }
+
+-- where the head of the fact that stands at p ends, and its row j stands
+abbrev pub headEnd : ℕ → ℕ
+headEnd p = p + Records.headSize
+
+abbrev pub rowPlace : ℕ → ℕ → ℕ
+rowPlace p j = headEnd p + Records.rowSize * j
 
 -- "facts (16-bit loop number or 65,535 for the whole graph, 16-bit block, 16-bit l, then 16 bytes a row)"
 abbrev pub factAt : List ℕ → ℕ → Fact
-factAt f p = record { scope = u16At f p; block = u16At f (p + 2); limit = u16At f (p + 4); row = λ j. rowAt f (p + 6 + 16 * j) }
+factAt f p =
+    record {
+      scope = u16At f p;
+      block = u16At f (p + Records.blockField);
+      limit = u16At f (p + Records.limitField);
+      row = λ j. rowAt f (rowPlace p j);
+    }
 
 unfoldable pub nodeAt : List ℕ → ℕ → ℕ
-nodeAt f v = u16At f (2 * v)
+nodeAt f v = u16At f (nodePlace v)
 
 module _ (f : List ℕ) (t : Trailer) where
   unfoldable pub fromAt : ℕ → ℕ
-  fromAt i = u16At f (edgesAt t + 4 * i)
+  fromAt i = u16At f (edgePlace t i)
 
   unfoldable pub toAt : ℕ → ℕ
-  toAt i = u16At f (edgesAt t + 4 * i + 2)
+  toAt i = u16At f (edgePlace t i + Records.toField)
 
   unfoldable pub loopAt : ℕ → Loop
   loopAt j =
       record {
-        first = u16At f (loopsAt t + 8 * j);
-        last = u16At f (loopsAt t + 8 * j + 2);
-        bound = u32At f (loopsAt t + 8 * j + 4);
+        first = u16At f (loopPlace t j);
+        last = u16At f (loopPlace t j + Records.lastField);
+        bound = u32At f (loopPlace t j + Records.boundField);
       }
 
   -- where the fact that stands at p ends
   unfoldable pub factEnd : ℕ → ℕ
-  factEnd p = p + 6 + 16 * size (rangeOf (t .nodes) loopAt (u16At f p))
+  factEnd p = rowPlace p (size (rangeOf (t .nodes) loopAt (factAt f p .scope)))
 
   -- where fact i stands
   unfoldable pub factPlace : ℕ → ℕ

@@ -5,6 +5,7 @@ use lib.Dec.{eqb, ltb, leb}
 use Rattle.paper.specs.declared.Loop.{Loop}
 use Rattle.paper.specs.Lists.{some, productTo}
 use Rattle.paper.specs.Machines.{none}
+use Rattle.paper.specs.Ceilings.{mostBound, mostCount}
 use Rattle.paper.specs.Cases.{Case, Fact, inside}
 
 -- The edge u to v stands after the edge u′ to v′: "strictly rising by from, then to".
@@ -38,7 +39,7 @@ wrongLoop nodes loop i h l =
     ltb (l .last) (l .first)
     || (leb nodes (l .last)
     || (ltb (l .bound) 1
-    || (ltb 1000000 (l .bound) || ((ltb 0 i && leb (l .first) h) || some (λ j. crosses (loop j) l) i))))
+    || (ltb mostBound (l .bound) || ((ltb 0 i && leb (l .first) h) || some (λ j. crosses (loop j) l) i))))
 
 module _ (e : Case) where
   -- 6
@@ -63,7 +64,7 @@ module _ (e : Case) where
 
   -- 10: "count too large"
   unfoldable pub badCount : ℕ → Bool
-  badCount v = ltb 4294967295 (count v)
+  badCount v = ltb mostCount (count v)
 
   -- "Entries of a loop: the product over the loops strictly around it."
   unfoldable pub entriesOf : Loop → ℕ

@@ -7,17 +7,19 @@ use lib.ListN.{length}
 use Rattle.paper.specs.declared.Trailer.{Trailer}
 use Rattle.paper.specs.Machines.{inRange}
 use Rattle.paper.specs.Cases.{Case}
+use Rattle.paper.specs.Ceilings.{mostNodes, mostEdges, mostLoops, mostFacts}
+use Rattle.paper.specs.Records.{trailerSize}
 use Rattle.paper.specs.Files.{endAt, factsAt}
 
 -- The file is laid out as its trailer says: every section is there, and the numbers are small.
 pub record Laid (f : List ℕ) (t : Trailer) : Type 0 where
-  pub long : 32 ≤ length f
+  pub long : trailerSize ≤ length f
   pub room : factsAt t ≤ endAt f
   pub nodes-low : 1 ≤ t .nodes
-  pub nodes-high : t .nodes ≤ 1024
-  pub edges-high : t .edges ≤ 4096
-  pub loops-high : t .loops ≤ 64
-  pub facts-high : t .facts ≤ 256
+  pub nodes-high : t .nodes ≤ mostNodes
+  pub edges-high : t .edges ≤ mostEdges
+  pub loops-high : t .loops ≤ mostLoops
+  pub facts-high : t .facts ≤ mostFacts
   pub ways-high : t .ways ≤ 8
   pub sets-low : 1 ≤ t .sets
   pub sets-high : t .sets ≤ 64

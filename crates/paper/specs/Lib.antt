@@ -9,6 +9,8 @@ pub mod Walks
 pub mod Runs
 pub mod Facts
 pub mod Bounds
+pub mod Ceilings
+pub mod Records
 pub mod Files
 pub mod Rules
 pub mod Known

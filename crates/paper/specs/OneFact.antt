@@ -1,8 +1,9 @@
 -- The file of one fact: a given file's graph, and a fact with rows. The tool accepts the rows as evidence where it accepts this file.
-use Prim.Native.Nat.{ℕ, _/_, _%_}
+use Prim.Native.Nat.{ℕ, _+_, _/_, _%_}
 use mathlib.Core.List.{List, [], _∷_, _++_}
 use lib.ListN.{take, drop}
 use Rattle.paper.specs.Cases.{Fact}
+use Rattle.paper.specs.Records.{bits16, factsField}
 use Rattle.paper.specs.Files.{endAt, trailerOf, factsAt}
 
 -- "Little-endian.": 16-bit numbers as bytes.
@@ -20,7 +21,7 @@ headBytes t = words (t .scope ∷ t .block ∷ t .limit ∷ [])
 
 -- "The last 32 bytes", with n for the number of facts
 abbrev pub trailerWith : List ℕ → ℕ → List ℕ
-trailerWith f n = take 22 (drop (endAt f) f) ++ (words (n ∷ []) ++ drop 24 (drop (endAt f) f))
+trailerWith f n = take factsField (drop (endAt f) f) ++ (words (n ∷ []) ++ drop (factsField + bits16) (drop (endAt f) f))
 
 -- The file with f's graph and one fact, t, which has these rows.
 unfoldable pub fileWith : List ℕ → Fact → List ℕ → List ℕ

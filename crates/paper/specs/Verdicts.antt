@@ -1,5 +1,5 @@
 -- The check "tests 20 first, then 1 to 10 in order, each over the whole file; then for each fact in turn 11 to 18; then 19": the chains of which the verdict is made, each by its name.
-use Prim.Native.Nat.{ℕ, zero, suc, _+_}
+use Prim.Native.Nat.{ℕ, zero, suc}
 use mathlib.Core.List.{List, _++_}
 use lib.Dec.{ltb}
 use lib.ListN.{length, drop}
@@ -13,12 +13,13 @@ use Rattle.paper.specs.Cases.{Fact, Case, size, scopeOf}
 use Rattle.paper.specs.Graphs.{badEdge, badLoop, badEntry, badReturn, badCount}
 use Rattle.paper.specs.Facts.{nonePrevious, previousOf, badHead, badOrder, unfetched, badRowAt, badStepAt, badManyAt}
 use Rattle.paper.specs.Bounds.{numbers}
-use Rattle.paper.specs.Files.{endAt, trailerOf, badLetters, badCache, badNumbers, badOffsets, factsAt, factAt, factEnd, factPlace, caseOf, readCase}
+use Rattle.paper.specs.Records.{trailerSize}
+use Rattle.paper.specs.Files.{endAt, trailerOf, badLetters, badCache, badNumbers, badOffsets, factsAt, headEnd, factAt, factEnd, factPlace, caseOf, readCase}
 
 -- 1 to 5, the layout; 1: "fewer than 32 bytes"
 unfoldable pub layoutRules : List ℕ → Verdict → Verdict
 layoutRules f rest =
-    rule 1 0 (ltb (length f) 32)
+    rule 1 0 (ltb (length f) trailerSize)
     (rule 2 0 (badLetters f)
     (rule 3 0 (badCache (trailerOf f)) (rule 4 0 (badNumbers (trailerOf f)) (rule 5 0 (badOffsets f (trailerOf f)) rest))))
 
@@ -73,7 +74,7 @@ module _ (f : List ℕ) (t : Trailer) where
   -- The turn of fact i, which stands at p, after the previous one; 11: "fewer than 6 bytes left for a fact"
   unfoldable pub turnRules : ℕ → Previous → ℕ → Verdict → Verdict
   turnRules i previous p rest =
-      rule 11 i (ltb (endAt f) (p + 6))
+      rule 11 i (ltb (endAt f) (headEnd p))
       (headRule (caseOf f t) i (factAt f p) (orderRule (caseOf f t) i previous (factAt f p) (bodyRules i p rest)))
 
   -- "for each fact in turn": n facts, from fact i on, which stands at p

@@ -3,12 +3,19 @@ ghost use mathlib.Core.Path.{_≡_};
 ghost use Rattle.paper.specs.Answers as Answers;
 
 mod cache;
+mod ceilings;
 mod methods;
 
 pub use cache::home;
 pub use cache::is_in_range;
 pub use cache::is_offered;
 pub use cache::is_set_count;
+pub use ceilings::LONGEST_INPUT;
+pub use ceilings::MOST_BOUND;
+pub use ceilings::MOST_EDGES;
+pub use ceilings::MOST_FACTS;
+pub use ceilings::MOST_LOOPS;
+pub use ceilings::MOST_NODES;
 pub use methods::fifo_lines;
 pub use methods::lru_lines;
 pub use methods::nmru_lines;

@@ -1,6 +1,6 @@
 -- `fact_rules` walks through the facts: q is where a fact has had its turn, l where the loop began it.
 use Prim.Native.Nat.{_-_}
-use mathlib.Core.Path.{refl}
+use native.Mathlib.Omega.{arith}
 use borrow.Author.Needs.{needs}
 use Rattle.evidence.proofs.Walk.{Walked, walk-start, walk-on, walk-stops, walk-left, walk-done}
 use Rattle.evidence.proofs.fact_rules.Statement.{statement}
@@ -13,7 +13,7 @@ abbrev μ-loop : tie.MeasureT-loop
 μ-loop file t p₀ previous₀ i₀ p previous i = t .facts - i
 
 loop-holds : tie.Need-loop-holds Inv-loop μ-loop
-loop-holds c = walk-start _ _ (c .before .before .before .before .pre .0) _ refl
+loop-holds c = walk-start _ _ (c .before .before .pre .0) _ (c .facts-at .ensures)
 
 turn-of-requires : tie.Need-turn-of-requires Inv-loop μ-loop
 turn-of-requires c κs = (search needs, (search needs, c .before .before .loop .inv .room))
@@ -32,13 +32,15 @@ loop-again c =
 
 returns-2 : tie.Need-returns-2 Inv-loop μ-loop
 returns-2 c =
-    let l = c .before .before .before .before in
-    walk-left _ _ _ _ _ (l .loop .inv) (c .before .before .if1 .left) _ (c .before .if2 .taken) (c .refuse .ensures)
+    let e = c .before .before in
+    let l = e .before .before .before in
+    walk-left _ _ _ _ _ (l .loop .inv) (e .before .if1 .left) _ (omega (arith, c .before .if2 .taken, e .end-of .ensures)) (c .refuse .ensures)
 
 returns-3 : tie.Need-returns-3 Inv-loop μ-loop
 returns-3 c =
-    let l = c .before .before .before in
-    walk-done _ _ _ _ _ (l .loop .inv) (c .before .if1 .left) (c .if2 .left)
+    let e = c .before in
+    let l = e .before .before .before in
+    walk-done _ _ _ _ _ (l .loop .inv) (e .before .if1 .left) (omega (arith, c .if2 .left, e .end-of .ensures))
 
 pub fact-rules-spec : {M : Type 1} → statement M
 fact-rules-spec =
@@ -46,14 +48,7 @@ fact-rules-spec =
     (tie.spec
     Inv-loop
     μ-loop
-    (λ c. search needs)
-    (λ c. search needs)
-    (λ c. search needs)
-    (λ c. search needs)
-    (λ c. search needs)
-    (λ c. search needs)
-    (λ c. search needs)
-    (λ c. search needs)
+    (λ c κs. search needs)
     loop-holds
     turn-of-requires
     (λ c. search needs)
@@ -62,7 +57,7 @@ fact-rules-spec =
     (λ c. search needs)
     (λ c. search needs)
     loop-again
-    (λ c. search needs)
+    (λ c κs. search needs)
     (λ c κs. search needs)
     returns-2
     returns-3)

@@ -1,3 +1,4 @@
+-- `names_at`: the three numbers of the head.
 use borrow.Author.Needs.{needs}
 use Rattle.evidence.proofs.names_at.Statement.{statement}
 use Rattle.evidence.proofs.names_at.Tie as tie
@@ -6,6 +7,4 @@ returns : tie.Need-returns
 returns c = cc
 
 pub names-at-spec : {M : Type 1} → statement M
-names-at-spec =
-    tie.close
-    (tie.spec (λ c κs. search needs) (λ c. search needs) (λ c κs. search needs) (λ c. search needs) (λ c κs. search needs) returns)
+names-at-spec = tie.close (tie.spec (λ c κs. search needs) (λ c κs. search needs) (λ c κs. search needs) returns)

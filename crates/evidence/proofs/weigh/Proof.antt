@@ -1,4 +1,4 @@
--- `weigh` answers as the body's chain: u is where the nodes were looked at, n where they were counted, m where the room was measured, g where the evidence was judged.
+-- `weigh` answers as the body's chain: u is where the nodes were looked at, n where they were counted, z where their rows were measured, m where the room was measured, g where the evidence was judged.
 use mathlib.Core.Path.{refl, sym, _∙_, ap}
 use mathlib.Core.Bool.{true, false}
 use borrow.Author.Needs.{needs}
@@ -18,46 +18,50 @@ returns c =
 returns-2 : tie.Need-returns-2
 returns-2 c =
     let m = c .before .before in
-    let n = m .before in
+    let z = m .before in
+    let n = z .before in
     let u = n .before .before .before in
     let s = u .before .before .pre .1 .1 .0 in
     told-refused _ _ _ _ _
     (ap Refused (c .refuse2 .ensures)
     ∙ body-is _ _ _ s _ false true _ (sym (n .before .before .if1 .left) ∙ u .unfetched .ensures)
-    (sym (c .before .if2 .taken) ∙ cut-is _ _ _ s _ (n .nodes-of .ensures .0) _ (m .short-of .ensures))
+    (sym (c .before .if2 .taken) ∙ cut-is _ _ _ s _ _ (n .nodes-of .ensures .0) (z .rows-size .ensures) _ (m .short-of .ensures))
     refl)
 
 evidence-rules-requires : tie.Need-evidence-rules-requires
 evidence-rules-requires c κs =
     let m = c .before in
-    let n = m .before in
+    let z = m .before in
+    let n = z .before in
     let p = n .before .before .before .before .before .pre in
-    (p .0, (p .1 .0, (p .1 .1 .0, whole _ _ _ (p .1 .1 .0) _ (n .nodes-of .ensures .0) _ (m .short-of .ensures) (c .if2 .left))))
+    (p .0, (p .1 .0, (p .1 .1 .0, whole _ _ _ (p .1 .1 .0) _ _ (n .nodes-of .ensures .0) (z .rows-size .ensures) _ (m .short-of .ensures) (c .if2 .left))))
 
 returns-3 : tie.Need-returns-3
 returns-3 c =
     let g = c .before .before in
     let m = g .before .before in
-    let n = m .before in
+    let z = m .before in
+    let n = z .before in
     let u = n .before .before .before in
     let s = u .before .before .pre .1 .1 .0 in
     let e = n .nodes-of .ensures .0 in
     told-kept _ _ _ _ _
     (body-is _ _ _ s _ false false Accepted (sym (n .before .before .if1 .left) ∙ u .unfetched .ensures)
-    (sym (g .before .if2 .left) ∙ cut-is _ _ _ s _ e _ (m .short-of .ensures))
+    (sym (g .before .if2 .left) ∙ cut-is _ _ _ s _ _ e (z .rows-size .ensures) _ (m .short-of .ensures))
     (sym (c .enum-told .given .1) ∙ g .evidence-rules .ensures))
-    (next-of _ _ _ s _ e _ (m .short-of .ensures) (g .before .if2 .left))
+    (next-of _ _ _ s _ _ e (z .rows-size .ensures) _ (m .short-of .ensures) (g .before .if2 .left))
 
 returns-4 : tie.Need-returns-4
 returns-4 c =
     let g = c .before .before .before in
     let m = g .before .before in
-    let n = m .before in
+    let z = m .before in
+    let n = z .before in
     let u = n .before .before .before in
     let s = u .before .before .pre .1 .1 .0 in
     told-refused _ _ _ _ _
     (body-is _ _ _ s _ false false (Refused _) (sym (n .before .before .if1 .left) ∙ u .unfetched .ensures)
-    (sym (g .before .if2 .left) ∙ cut-is _ _ _ s _ (n .nodes-of .ensures .0) _ (m .short-of .ensures))
+    (sym (g .before .if2 .left) ∙ cut-is _ _ _ s _ _ (n .nodes-of .ensures .0) (z .rows-size .ensures) _ (m .short-of .ensures))
     (sym (c .before .evidence .given .1) ∙ g .evidence-rules .ensures))
 
 pub weigh-spec : {M : Type 1} → statement M
@@ -69,8 +73,7 @@ weigh-spec =
     returns
     (λ c. search needs)
     (λ c κs. search needs)
-    (λ c. search needs)
-    (λ c. search needs)
+    (λ c κs. search needs)
     (λ c κs. search needs)
     (λ c κs. search needs)
     returns-2

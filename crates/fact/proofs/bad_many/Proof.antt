@@ -7,7 +7,7 @@ use Rattle.fact.proofs.bad_many.Tie as tie
 returns : tie.Need-returns
 unfolding badManyAt
 returns c =
-    rw (← c .before .before .before .fetches .ensures, c .before .before .if1 .taken, c .u16-at .ensures, c .before .row-at .ensures .0) refl
+    rw (← c .before .before .before .fetches .ensures, c .before .before .if1 .taken, c .number-at .ensures, c .before .row-at .ensures .0) refl
 
 returns-2 : tie.Need-returns-2
 unfolding badManyAt

@@ -1,3 +1,4 @@
+use borrow.Author.Needs.{needs}
 use Rattle.paper.specs.Files.{badNumbers}
 use Rattle.layout.proofs.bad_numbers.Statement.{statement}
 use Rattle.layout.proofs.bad_numbers.Tie as tie
@@ -7,4 +8,4 @@ unfolding badNumbers
 returns c = cc
 
 pub bad-numbers-spec : {M : Type 1} → statement M
-bad-numbers-spec = tie.close (tie.spec returns)
+bad-numbers-spec = tie.close (tie.spec (λ c. search needs) (λ c. search needs) (λ c. search needs) (λ c. search needs) returns)

@@ -1,5 +1,5 @@
-use borrow.Author.Needs.{needs}
 use Rattle.paper.specs.Files.{fromAt}
+use borrow.Author.Needs.{needs}
 use Rattle.layout.proofs.sections.from_at.Statement.{statement}
 use Rattle.layout.proofs.sections.from_at.Tie as tie
 
@@ -8,5 +8,4 @@ unfolding fromAt
 returns c = cc
 
 pub from-at-spec : {M : Type 1} → statement M
-from-at-spec =
-    tie.close (tie.spec (λ c. search needs) (λ c. search needs) (λ c. search needs) (λ c. search needs) (λ c κs. search needs) returns)
+from-at-spec = tie.close (tie.spec (λ c κs. search needs) (λ c κs. search needs) returns)

@@ -1,5 +1,5 @@
-use borrow.Author.Needs.{needs}
 use Rattle.paper.specs.Files.{loopAt}
+use borrow.Author.Needs.{needs}
 use Rattle.layout.proofs.sections.loop_at.Statement.{statement}
 use Rattle.layout.proofs.sections.loop_at.Tie as tie
 
@@ -11,13 +11,7 @@ pub loop-at-spec : {M : Type 1} → statement M
 loop-at-spec =
     tie.close
     (tie.spec
-    (λ c. search needs)
-    (λ c. search needs)
-    (λ c. search needs)
-    (λ c. search needs)
-    (λ c. search needs)
-    (λ c. search needs)
-    (λ c. search needs)
+    (λ c κs. search needs)
     (λ c κs. search needs)
     (λ c. search needs)
     (λ c κs. search needs)

@@ -1,5 +1,5 @@
-use borrow.Author.Needs.{needs}
 use Rattle.paper.specs.Files.{nodeAt}
+use borrow.Author.Needs.{needs}
 use Rattle.layout.proofs.sections.node_at.Statement.{statement}
 use Rattle.layout.proofs.sections.node_at.Tie as tie
 
@@ -8,4 +8,4 @@ unfolding nodeAt
 returns c = cc
 
 pub node-at-spec : {M : Type 1} → statement M
-node-at-spec = tie.close (tie.spec (λ c. search needs) (λ c κs. search needs) returns)
+node-at-spec = tie.close (tie.spec (λ c κs. search needs) (λ c κs. search needs) returns)

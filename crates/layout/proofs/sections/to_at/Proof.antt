@@ -1,5 +1,5 @@
-use borrow.Author.Needs.{needs}
 use Rattle.paper.specs.Files.{toAt}
+use borrow.Author.Needs.{needs}
 use Rattle.layout.proofs.sections.to_at.Statement.{statement}
 use Rattle.layout.proofs.sections.to_at.Tie as tie
 
@@ -8,6 +8,4 @@ unfolding toAt
 returns c = cc
 
 pub to-at-spec : {M : Type 1} → statement M
-to-at-spec =
-    tie.close
-    (tie.spec (λ c. search needs) (λ c. search needs) (λ c. search needs) (λ c. search needs) (λ c. search needs) (λ c κs. search needs) returns)
+to-at-spec = tie.close (tie.spec (λ c κs. search needs) (λ c. search needs) (λ c κs. search needs) returns)
