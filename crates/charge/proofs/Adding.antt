@@ -6,11 +6,13 @@ use mathlib.Core.Path.{_≡_, refl}
 use mathlib.Core.List.{List}
 use lib.ListN.{set}
 use Rattle.paper.specs.declared.Trailer.{Trailer}
-use Rattle.paper.specs.Bounds.{covers}
+use Rattle.paper.specs.Bounds.{factsFrom, covers}
 use Rattle.paper.specs.Files.{endAt, factAt, factEnd, factPlace, caseOf}
 use Rattle.paper.proofs.Meaning.{SoundHead}
 use Rattle.charge.specs.Ready.{Ready}
-use Rattle.charge.specs.Tables.{plus, placeOf, Open, Limits, Lowered, Covered, FactsAdded, Part, costOf}
+use Rattle.charge.specs.Chained.{Limits, Lowered, Covered}
+use Rattle.charge.specs.Sizes as Sizes
+use Rattle.charge.specs.Tables.{plus, placeOf, Open, FactsAdded, Part, costOf}
 use Rattle.charge.specs.declared.facts.Cost.{Cost}
 use Rattle.charge.proofs.Cover.{covered-more, covered-limits}
 use Rattle.charge.proofs.Parts.{part-fact}
@@ -43,12 +45,12 @@ module _ (f : List ℕ) (t : Trailer) (old : List ℕ) (i p : ℕ) (cover charge
     pub end-at : factEnd f t p ≤ endAt f
     end-at = rw (w .place) (r .placed .ends i h)
 
-    limit-low : caseOf f t .fact i .limit < 10
+    limit-low : caseOf f t .fact i .limit < Sizes.limits
     unfolding caseOf
     limit-low = omega (arith, fact-head f t (r .laid) (r .sound) i h .high, r .laid .ways-high)
 
     module _ (k : Cost) (costs : k ≡ costOf f t p) where
-      pub adding-open : Open charged entered (k .block % t .sets) (k .limit) (k .bound) (k .entries)
+      pub adding-open : Open charged entered (k .block % t .sets) (k .limit) (k .bound) (k .entered)
       unfolding caseOf costOf
       adding-open =
           rw (costs, w .place)
@@ -57,8 +59,8 @@ module _ (f : List ℕ) (t : Trailer) (old : List ℕ) (i p : ℕ) (cover charge
 
       pub adding-more :
           (new charged′ entered′ : List ℕ) → Lowered (caseOf f t) (covers (caseOf f t) (factAt f p)) (factAt f p .limit) cover new
-          → charged′ ≡ plus charged (k .block % t .sets) (k .bound) → entered′ ≡ plus entered (placeOf (k .block % t .sets) (k .limit)) (k .entries)
-          → Adding f t old (i + 1) (k .next) new charged′ entered′ (set bounds (65 + i) (k .bound))
+          → charged′ ≡ plus charged (k .block % t .sets) (k .bound) → entered′ ≡ plus entered (placeOf (k .block % t .sets) (k .limit)) (k .entered)
+          → Adding f t old (i + 1) (k .next) new charged′ entered′ (set bounds (factsFrom + i) (k .bound))
       unfolding caseOf costOf factPlace
       adding-more new charged′ entered′ low ec ee =
           rw (ec, ee, costs, w .place)

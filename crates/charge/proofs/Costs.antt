@@ -1,8 +1,8 @@
 -- What one fact costs: the code's numbers are the paper's.
-use Prim.Native.Nat.{ℕ, _+_, _-_, _≤_, _<_}
+use Prim.Native.Nat.{ℕ, _≤_, _<_}
 use native.Mathlib.Omega.{arith}
 use native.Mathlib.Decide.{ℕ-discrete}
-use mathlib.Core.Path.{_≡_, refl, _∙_}
+use mathlib.Core.Path.{_≡_, refl, subst, _∙_}
 use mathlib.Core.Logic.{_≢_}
 use mathlib.Core.List.{List}
 use borrow.Author.Tests.{eq-eqb, ne-eqb}
@@ -10,13 +10,16 @@ use lib.ListN.{length}
 use Rattle.paper.specs.declared.Loop.{Loop}
 use Rattle.paper.specs.declared.Trailer.{Trailer}
 use Rattle.paper.specs.Machines.{none}
-use Rattle.paper.specs.Cases.{inside, rangeOf}
+use Rattle.paper.specs.Cases.{size, rangeOf}
 use Rattle.paper.specs.Graphs.{entries}
-use Rattle.paper.specs.Bounds.{boundOf, covers, counts, factBound}
+use Rattle.paper.specs.Bounds.{boundOf, fetchesIn, covers, counts, entered, factBound}
 use Rattle.paper.specs.Files.{endAt, headEnd, rowPlace, factAt, loopAt, factEnd, caseOf}
+use Rattle.paper.proofs.Meaning.{SoundHead}
 use Rattle.charge.specs.Ready.{Ready}
-use Rattle.charge.specs.Tables.{entriesIn, fetchesIn, visitsIn, Lowered, costOf}
+use Rattle.charge.specs.Chained.{Lowered}
+use Rattle.charge.specs.Tables.{headOf, costOf}
 use Rattle.charge.specs.declared.facts.Cost.{Cost}
+use Rattle.charge.specs.declared.heads.Head.{Head}
 
 -- a fact's scope lies in the graph
 pub scope-fits :
@@ -31,43 +34,38 @@ scope-fits f t c w s r h e =
     ])
 
 module _ (f : List ℕ) (t : Trailer) (p : ℕ) where
+  -- rule 12: it is one of the loops or the whole graph
+  pub scope-low : (w : ℕ) → w ≡ factAt f p .scope → SoundHead (caseOf f t) (factAt f p) → w ≢ none → w < t .loops
+  unfolding caseOf
+  scope-low w ew h = rw ew (h .scope)
+
   -- the head of a fact that ends before the trailer
   pub head-room : factEnd f t p ≤ endAt f → headEnd p ≤ length f
   unfolding factEnd
   head-room h = omega arith
 
-  entries-are : (w E : ℕ) → w ≡ factAt f p .scope → E ≡ entriesIn (caseOf f t) w → E ≡ entries (caseOf f t) (factAt f p)
-  unfolding entriesIn entries
-  entries-are w E ew eE = eE ∙ rw ew refl
+  -- its rows follow
+  pub next-is : (w : ℕ) (s : Loop) → w ≡ factAt f p .scope → s ≡ rangeOf (t .nodes) (loopAt f t) w → rowPlace p (size s) ≡ factEnd f t p
+  unfolding factEnd
+  next-is w s ew es = rw (← ew, ← es) refl
 
-  module _ (w b : ℕ) (s : Loop) (ew : w ≡ factAt f p .scope) (eb : b ≡ factAt f p .block) (es : s ≡ rangeOf (t .nodes) (loopAt f t) w) where
-    covers-are : (v : ℕ) → fetchesIn (caseOf f t) (s .first) (s .last) b v ≡ covers (caseOf f t) (factAt f p) v
-    unfolding fetchesIn covers inside caseOf
-    covers-are v = rw (es, ew, eb) refl
+  pub head-is :
+      (w b l x : ℕ) (s : Loop) → w ≡ factAt f p .scope → b ≡ factAt f p .block → l ≡ factAt f p .limit → s ≡ rangeOf (t .nodes) (loopAt f t) w → x ≡ factEnd f t p
+      → _≡_ {A = Head} (record { scope = w; block = b; limit = l; range = s; next = x }) (headOf f t p)
+  unfolding headOf
+  head-is w b l x s ew eb el es ex = rw (es, ew, eb, el, ex) refl
 
-    visits-are : (N : ℕ) → N ≡ visitsIn (caseOf f t) (s .first) (s .last) b → N ≡ counts (caseOf f t) (covers (caseOf f t) (factAt f p))
-    unfolding visitsIn counts fetchesIn covers inside caseOf
-    visits-are N e = e ∙ rw (es, ew, eb) refl
-
-    bound-is :
-        (l E N x : ℕ) → l ≡ factAt f p .limit → E ≡ entriesIn (caseOf f t) w → N ≡ visitsIn (caseOf f t) (s .first) (s .last) b
-        → x ≡ boundOf (t .policy) (t .ways) l E N → x ≡ factBound (caseOf f t) (factAt f p)
-    unfolding factBound caseOf
-    bound-is l E N x el eE eN e = e ∙ rw (el, entries-are w E ew eE, visits-are N eN) refl
-
+  module _ (h : Head) (eh : h ≡ headOf f t p) where
     pub cost-is :
-        (l E N x n : ℕ) → l ≡ factAt f p .limit → E ≡ entriesIn (caseOf f t) w → N ≡ visitsIn (caseOf f t) (s .first) (s .last) b
-        → x ≡ boundOf (t .policy) (t .ways) l E N → n ≡ factEnd f t p
-        → _≡_ {A = Cost} (record { block = b; limit = l; entries = E; bound = x; next = n }) (costOf f t p)
-    unfolding costOf
-    cost-is l E N x n el eE eN ex en = rw (bound-is l E N x el eE eN ex, entries-are w E ew eE, el, eb, en) refl
+        (E N x : ℕ) → E ≡ entries (caseOf f t) (factAt f p) → N ≡ counts (caseOf f t) (fetchesIn (caseOf f t) (h .range) (h .block))
+        → x ≡ boundOf (t .policy) (t .ways) (h .limit) E N
+        → _≡_ {A = Cost} (record { block = h .block; limit = h .limit; entered = E; bound = x; next = h .next }) (costOf f t p)
+    unfolding headOf costOf factBound entered covers caseOf
+    cost-is E N x eE eN ex = rw (ex, eN, eE, eh) refl
 
     pub lowered-is :
-        (l : ℕ) (old new : List ℕ) → l ≡ factAt f p .limit → Lowered (caseOf f t) (fetchesIn (caseOf f t) (s .first) (s .last) b) l old new
+        (old new : List ℕ) → Lowered (caseOf f t) (fetchesIn (caseOf f t) (h .range) (h .block)) (h .limit) old new
         → Lowered (caseOf f t) (covers (caseOf f t) (factAt f p)) (factAt f p .limit) old new
-    lowered-is l old new el h =
-        record { room = h .room; is = λ v q. h .is v q ∙ rw (covers-are v, el) refl }
-
-    pub end-is : (x : ℕ) → s .first ≤ s .last → x ≡ rowPlace p (s .last - s .first + 1) → x ≡ factEnd f t p
-    unfolding factEnd
-    end-is x l e = rw (← ew, ← es) (e ∙ omega arith)
+    unfolding headOf covers caseOf
+    lowered-is old new low =
+        subst (λ (k : Head). Lowered (caseOf f t) (fetchesIn (caseOf f t) (k .range) (k .block)) (k .limit) old new) eh low

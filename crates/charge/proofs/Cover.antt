@@ -1,4 +1,4 @@
--- The laws of the least limit that covers a node: a fact of limit at most l covers the node exactly when it is at most l. Assumes nothing.
+-- The laws of the least limit that covers a node: a fact of limit at most l covers the node exactly when it is at most l.
 use Prim.Native.Nat.{ℕ, zero, suc, _+_, _≤_, _<_, min}
 use native.Mathlib.Omega.{arith}
 use native.Mathlib.Decide.{decLe}
@@ -16,7 +16,8 @@ use Rattle.paper.specs.Cases.{Fact, Case}
 use Rattle.paper.specs.Bounds.{covers}
 use Rattle.paper.proofs.Least.{None, Found, look, some-none, some-is}
 use Rattle.paper.proofs.Says.{says-le, says-or, says-same}
-use Rattle.charge.specs.Tables.{lowestLimit, Limits, Lowered, Covered}
+use Rattle.charge.specs.Chained.{lowestLimit, Limits, Lowered, Covered}
+use Rattle.charge.specs.Sizes as Sizes
 
 some-more : (p : ℕ → Bool) (n : ℕ) → some p (suc n) ≡ (some p n || p n)
 some-more p n =
@@ -39,8 +40,8 @@ leb-min a b l =
     (says-le _ _) (says-or (says-le a l) (says-le b l))
 
 module _ (e : Case) where
-  -- the least limit is at most 9, and at least 1 where the facts' limits are
-  pub lowest-high : (n v : ℕ) → lowestLimit e n v ≤ 9
+  -- at most the limit of a node that no fact covers, and at least 1 where the facts' limits are
+  pub lowest-high : (n v : ℕ) → lowestLimit e n v ≤ Sizes.noLimit
   unfolding lowestLimit lowestTo
   lowest-high zero v = omega arith
   lowest-high (suc n) v = omega (arith, lowest-high n v)
@@ -50,17 +51,17 @@ module _ (e : Case) where
   lowest-low zero v h = omega arith
   lowest-low (suc n) v h = omega (arith, lowest-low n v (λ i l. h i (omega arith)), one (covers e (e .fact n) v) (e .fact n .limit) (h n (omega arith)))
     where
-      one : (b : Bool) (x : ℕ) → 1 ≤ x → 1 ≤ cond b x 9
+      one : (b : Bool) (x : ℕ) → 1 ≤ x → 1 ≤ cond b x Sizes.noLimit
       one true x h = h
       one false x h = omega arith
 
   -- no fact is added, and one more
-  pub covered-start : e .nodes ≤ 1024 → Covered e 0 (replicate 1024 9)
+  pub covered-start : e .nodes ≤ Sizes.nodes → Covered e 0 (replicate Sizes.nodes Sizes.noLimit)
   unfolding lowestLimit lowestTo
   covered-start h =
       record {
-        room = omega (arith, length-replicate {A = ℕ} 1024 9);
-        lowest = λ v k. getD-replicate 1024 v 9 0 (omega arith);
+        room = omega (arith, length-replicate {A = ℕ} Sizes.nodes Sizes.noLimit);
+        lowest = λ v k. getD-replicate Sizes.nodes v Sizes.noLimit 0 (omega arith);
       }
 
   pub covered-more : (n : ℕ) (cover new : List ℕ) → Covered e n cover → Lowered e (covers e (e .fact n)) (e .fact n .limit) cover new → Covered e (n + 1) new
@@ -71,21 +72,21 @@ module _ (e : Case) where
   pub covered-limits : (n : ℕ) (cover : List ℕ) → Covered e n cover → Limits e cover
   covered-limits n cover w = record { room = w .room; low = λ v h. rw (w .lowest v h) (lowest-high n v) }
 
-module _ (e : Case) (test : Fact → Bool) (v l : ℕ) (small : l < 9) where
-  -- a fact that covers the node counts with its limit, any other as 9
-  part : (c : Bool) (x : ℕ) (t : Bool) → t ≡ leb x l → (t && c) ≡ leb (cond c x 9) l
+module _ (e : Case) (test : Fact → Bool) (v l : ℕ) (small : l < Sizes.noLimit) where
+  -- a fact that covers the node counts with its limit, any other as if it had none
+  part : (c : Bool) (x : ℕ) (t : Bool) → t ≡ leb x l → (t && c) ≡ leb (cond c x Sizes.noLimit) l
   part true x true q = q
   part true x false q = q
-  part false x true q = sym (lt-leb 9 l (omega arith))
-  part false x false q = sym (lt-leb 9 l (omega arith))
+  part false x true q = sym (lt-leb Sizes.noLimit l (omega arith))
+  part false x false q = sym (lt-leb Sizes.noLimit l (omega arith))
 
   pub covered-is :
       (n : ℕ) → ((i : ℕ) → i < n → test (e .fact i) ≡ leb (e .fact i .limit) l)
       → some (λ i. test (e .fact i) && covers e (e .fact i) v) n ≡ leb (lowestLimit e n v) l
   unfolding lowestLimit lowestTo
-  covered-is zero h = some-none _ zero (λ k q. absurd (omega arith)) ∙ sym (lt-leb 9 l (omega arith))
+  covered-is zero h = some-none _ zero (λ k q. absurd (omega arith)) ∙ sym (lt-leb Sizes.noLimit l (omega arith))
   covered-is (suc n) h =
       some-more (λ i. test (e .fact i) && covers e (e .fact i) v) n
       ∙ ap₂ (λ (x y : Bool). x || y) (covered-is n (λ i q. h i (omega arith)))
       (part (covers e (e .fact n) v) (e .fact n .limit) (test (e .fact n)) (h n (omega arith)))
-      ∙ sym (leb-min (lowestLimit e n v) (cond (covers e (e .fact n) v) (e .fact n .limit) 9) l)
+      ∙ sym (leb-min (lowestLimit e n v) (cond (covers e (e .fact n) v) (e .fact n .limit) Sizes.noLimit) l)

@@ -1,107 +1,160 @@
--- A loop's entries are its header's count without its own bound: the loops that contain a header are the loop itself and those strictly around it.
--- Assumes nothing.
-use Prim.Native.Nat.{ℕ, zero, suc, _*_, _/_, _≤_, _<_}
+-- "Entries of a loop: the product over the loops strictly around it": the loops that contain the header of the next loop out are exactly those, so the product is that header's count; and 1 where no loop is around.
+use Prim.Native.Nat.{ℕ, zero, suc, _-_, _*_, _≤_, _<_}
 use native.Mathlib.Omega.{arith}
 use native.Mathlib.Decide.{ℕ-discrete, decLt}
-use native.Mathlib.Nat.{mul-assoc, mul-comm, div-eq-of-eq-mul-left, le-mul-of-pos-right}
 use mathlib.Core.Path.{_≡_, refl, sym, _∙_, ap, ap₂}
 use mathlib.Core.Logic.{_≢_}
-use mathlib.Core.Bool.{Bool, true, false, cond}
-use borrow.Author.Tests.{eq-eqb, ne-eqb}
-use Rattle.paper.specs.Lists.{productTo}
-use Rattle.paper.specs.Machines.{none}
-use Rattle.paper.specs.Cases.{Case, inside}
-use Rattle.paper.specs.Graphs.{count, around, entriesOf}
-use Rattle.paper.proofs.Sums.{product-same}
-use Rattle.paper.proofs.Meaning.{In, SoundGraph}
-use Rattle.paper.proofs.Says.{says-is, says-false, says-same}
-use Rattle.paper.proofs.GraphLaws.{inside-says, around-says}
+use mathlib.Core.Bool.{Bool, cond}
 use mathlib.Core.List.{List}
+use borrow.Author.Tests.{eq-eqb, ne-eqb}
 use lib.ListN.{getD}
 use Rattle.paper.specs.declared.Loop.{Loop}
 use Rattle.paper.specs.declared.Trailer.{Trailer}
-use Rattle.paper.specs.Files.{loopAt, caseOf}
+use Rattle.paper.specs.Lists.{productTo}
+use Rattle.paper.specs.Machines.{none}
+use Rattle.paper.specs.Cases.{Fact, Case, inside}
+use Rattle.paper.specs.Graphs.{count, around, entriesOf, entries}
+use Rattle.paper.specs.Files.{loopAt, factAt, caseOf}
+use Rattle.paper.proofs.Sums.{product-same}
+use Rattle.paper.proofs.Meaning.{In, SoundGraph}
+use Rattle.paper.proofs.Says.{says-true, says-false, says-same}
+use Rattle.paper.proofs.GraphLaws.{inside-says, around-says}
+use Rattle.paper.specs.Ceilings.{mostCount}
+use Rattle.charge.specs.NextOut.{nextOut, Outers}
 use Rattle.charge.specs.Ready.{Ready}
-use Rattle.charge.specs.Tables.{entriesIn}
+use Rattle.charge.proofs.Last.{last-low, last-is, last-none}
 
-module _ (F G : ℕ → ℕ) where
-  -- two products that agree but at w
-  product-but : (w b n : ℕ) → F w ≡ G w * b → ((j : ℕ) → j < n → j ≢ w → F j ≡ G j) → w < n → productTo F n ≡ productTo G n * b
-  unfolding productTo
-  product-but w b zero e h l = absurd (omega arith)
-  product-but w b (suc n) e h l =
-      elim (ℕ-discrete n w) [
-        | yes q ↦
-            rw q
-            (ap₂ (λ (x y : ℕ). x * y) (product-same F G w (λ j k. h j (omega arith) (omega arith))) e
-            ∙ sym (mul-assoc (productTo G w) (G w) b))
-        | no q ↦
-            ap₂ (λ (x y : ℕ). x * y) (product-but w b n e (λ j k. h j (omega arith)) (omega arith)) (h n (omega arith) q)
-            ∙ mul-assoc (productTo G n) b (G n)
-            ∙ ap (λ x. productTo G n * x) (mul-comm b (G n))
-            ∙ sym (mul-assoc (productTo G n) (G n) b)
-      ]
+product-one : (F : ℕ → ℕ) (n : ℕ) → ((j : ℕ) → j < n → F j ≡ 1) → productTo F n ≡ 1
+unfolding productTo
+product-one F zero h = refl
+product-one F (suc n) h = rw (product-one F n (λ j l. h j (omega arith)), h n (omega arith)) refl
 
-module _ (e : Case) (g : SoundGraph e) (w : ℕ) (hw : w < e .loops) where
-  header-in : inside (e .loop w) (e .loop w .first) ≡ true
-  header-in = says-is (inside-says _ _) (omega arith, g .fits w hw .0)
+module _ (e : Case) (g : SoundGraph e) (j : ℕ) (hj : j < e .loops) where
+  -- loop x is strictly around loop j
+  abbrev Around : ℕ → Type 0
+  Around x = (e .loop x .first < e .loop j .first) × (e .loop j .last ≤ e .loop x .last)
 
-  not-around : around (e .loop w) (e .loop w) ≡ false
-  not-around = says-false (around-says _ _) .1 (λ (h : (e .loop w .first < e .loop w .first) × (e .loop w .last ≤ e .loop w .last)). omega arith)
+  -- such a loop comes before it and contains its header
+  around-before : (x : ℕ) → x < e .loops → Around x → (x < j) × In (e .loop x) (e .loop j .first)
+  around-before x hx a =
+      let l : x < j =
+      elim (decLt x j) [
+        | yes l ↦ l
+        | no l ↦
+            elim (ℕ-discrete j x) [
+              | yes q ↦ absurd (omega (arith, a .0, ap (λ (i : ℕ). e .loop i .first) q))
+              | no q ↦ absurd (omega (arith, a .0, g .rises j x (omega arith) hx))
+            ]
+      ] in
+      (l, (omega (arith, a .0), omega (arith, a .1, g .fits j hj .0)))
 
-  same-around : (j : ℕ) → j < e .loops → j ≢ w → inside (e .loop j) (e .loop w .first) ≡ around (e .loop w) (e .loop j)
-  same-around j hj n =
-      says-same
-      (λ (h : In (e .loop j) (e .loop w .first)).
-      elim (decLt j w) [
-        | yes l ↦ (g .rises j w l hw, g .nested j w l hw (h .1))
-        | no l ↦ absurd (omega (arith, h .0, g .rises w j (omega arith) hj))
-      ])
-      (λ (h : (e .loop j .first < e .loop w .first) × (e .loop w .last ≤ e .loop j .last)). (omega arith, omega (arith, h .1, g .fits w hw .0)))
-      (inside-says _ _) (around-says _ _)
+  -- "the header visits of the next loop out": i is the last loop that contains this header
+  pub outer-next : (i : ℕ) → nextOut e j ≡ suc i → (i < j) × (entriesOf e (e .loop j) ≡ count e (e .loop i .first))
+  unfolding entriesOf count
+  outer-next i q =
+      (l, product-same _ _ (e .loops) (λ x hx. ap (λ (b : Bool). cond b (e .loop x .bound) 1) (same x hx)))
+    where
+      l : i < j
+      l = omega (arith, last-low (λ x. inside (e .loop x) (e .loop j .first)) j, q)
 
-  header-count : count e (e .loop w .first) ≡ entriesOf e (e .loop w) * e .loop w .bound
-  unfolding count entriesOf
-  header-count =
-      product-but _ _ w (e .loop w .bound) (e .loops) (rw (header-in, not-around) (omega arith))
-      (λ j hj n. ap (λ (b : Bool). cond b (e .loop j .bound) 1) (same-around j hj n)) hw
+      here : In (e .loop i) (e .loop j .first)
+      here = says-true (inside-says _ _) (last-is (λ x. inside (e .loop x) (e .loop j .first)) j i q)
 
-  loop-entries : count e (e .loop w .first) / e .loop w .bound ≡ entriesOf e (e .loop w)
-  loop-entries = div-eq-of-eq-mul-left (omega (arith, g .fits w hw .2)) header-count
+      last : (x : ℕ) → i < x → x < j → ¬ In (e .loop x) (e .loop j .first)
+      last x a b = says-false (inside-says _ _) .0 (last-none (λ x. inside (e .loop x) (e .loop j .first)) j x (omega (arith, q)) b)
 
-  loop-entries-low : entriesOf e (e .loop w) ≤ 4294967295
-  loop-entries-low =
-      let h : zero < e .loop w .bound = omega (arith, g .fits w hw .2) in
-      omega (
-        arith,
-        header-count,
-        le-mul-of-pos-right (entriesOf e (e .loop w)) h,
-        g .counts (e .loop w .first) (omega (arith, g .fits w hw .0, g .fits w hw .1)),
-      )
+      within : e .loop j .last ≤ e .loop i .last
+      within = g .nested i j l hj (here .1)
 
-pub entries-low : (e : Case) → SoundGraph e → (w : ℕ) → (w ≢ none → w < e .loops) → entriesIn e w ≤ 4294967295
-unfolding entriesIn
-entries-low e g w h =
-    elim (ℕ-discrete w none) [
-      | yes q ↦ rw (eq-eqb w none q) (omega arith)
-      | no q ↦ rw (ne-eqb w none q) (loop-entries-low e g w (h q))
+      same : (x : ℕ) → x < e .loops → around (e .loop j) (e .loop x) ≡ inside (e .loop x) (e .loop i .first)
+      same x hx =
+          says-same
+          (λ (a : Around x).
+          let b = around-before x hx a in
+          elim (decLt x i) [
+            | yes s ↦ (omega (arith, g .rises x i s (omega (arith, l))), omega (arith, g .rises i j l hj, a .1, g .fits j hj .0))
+            | no s ↦
+                elim (ℕ-discrete x i) [
+                  | yes z ↦ rw z (omega arith, g .fits i (omega (arith, l)) .0)
+                  | no z ↦ absurd (last x (omega arith) (b .0) (b .1))
+                ]
+          ])
+          (λ (h : In (e .loop x) (e .loop i .first)).
+          elim (decLt x i) [
+            | yes s ↦
+                (omega (arith, g .rises x i s (omega (arith, l)), g .rises i j l hj), omega (arith, within, g .nested x i s (omega (arith, l)) (h .1)))
+            | no s ↦
+                elim (ℕ-discrete x i) [
+                  | yes z ↦ rw z (g .rises i j l hj, within)
+                  | no z ↦ absurd (omega (arith, h .0, g .rises i x (omega arith) hx))
+                ]
+          ])
+          (around-says _ _) (inside-says _ _)
+
+  -- "1 outside all loops"
+  pub outer-alone : nextOut e j ≡ 0 → entriesOf e (e .loop j) ≡ 1
+  unfolding entriesOf
+  outer-alone q =
+      product-one _ (e .loops) (λ x hx. ap (λ (b : Bool). cond b (e .loop x .bound) 1) (says-false (around-says _ _) .1 (alone x hx)))
+    where
+      alone : (x : ℕ) → x < e .loops → ¬ Around x
+      alone x hx a =
+          let b = around-before x hx a in
+          says-false (inside-says (e .loop x) (e .loop j .first)) .0
+          (last-none (λ x. inside (e .loop x) (e .loop j .first)) j x (omega (arith, q)) (b .0)) (b .1)
+
+  pub outer-low : entriesOf e (e .loop j) ≤ mostCount
+  outer-low = go (nextOut e j) refl
+    where
+      go : (c : ℕ) → nextOut e j ≡ c → entriesOf e (e .loop j) ≤ mostCount
+      go zero q = omega (arith, outer-alone q)
+      go (suc i) q =
+          let r = outer-next i q in
+          let s = g .fits i (omega (arith, r .0)) in
+          omega (arith, r .1, g .counts (e .loop i .first) (omega (arith, s .0, s .1)))
+
+-- E of a fact whose scope is one of the loops or the whole graph
+pub entries-low : (e : Case) → SoundGraph e → (t : Fact) → (t .scope ≢ none → t .scope < e .loops) → entries e t ≤ mostCount
+unfolding entries
+entries-low e g t h =
+    elim (ℕ-discrete (t .scope) none) [
+      | yes q ↦ rw (eq-eqb (t .scope) none q) (omega arith)
+      | no q ↦ rw (ne-eqb (t .scope) none q) (outer-low e g (t .scope) (h q))
     ]
 
--- what the code reads of loop w, s: its header is a node, its bound is not 0, and its entries are the header's count over the bound
-pub record Header (f : List ℕ) (t : Trailer) (counts : List ℕ) (w : ℕ) (s : Loop) : Type 0 where
-  pub node : s .first < t .nodes
-  pub some : 0 < s .bound
-  pub is : getD counts (s .first) 0 / s .bound ≡ entriesIn (caseOf f t) w
+-- what the code reads: the table of the next loops out, and the counts
+module _ (f : List ℕ) (t : Trailer) (counts outers : List ℕ) (r : Ready f t counts) (o : Outers (caseOf f t) (t .loops) outers) (p w : ℕ) (ew : w ≡ factAt f p .scope) where
+  -- "the whole graph with one entry"
+  pub entries-whole : w ≡ none → 1 ≡ entries (caseOf f t) (factAt f p)
+  unfolding entries
+  entries-whole h = rw (← ew, eq-eqb w none h) refl
 
-pub header-is : (f : List ℕ) (t : Trailer) (counts : List ℕ) → Ready f t counts → (w : ℕ) (s : Loop) → w ≢ none → w < t .loops → s ≡ loopAt f t w → Header f t counts w s
-unfolding caseOf entriesIn
-header-is f t counts r w s n l q =
-    let g = r .sound .graph in
-    let h : loopAt f t w .first < t .nodes = omega (arith, g .fits w l .0, g .fits w l .1) in
-    rw q (record {
-      node = h;
-      some = omega (arith, g .fits w l .2);
-      is =
-          rw (ne-eqb w none n)
-          (ap (λ (x : ℕ). x / loopAt f t w .bound) (r .counted .at (loopAt f t w .first) h) ∙ loop-entries (caseOf f t) g w l);
-    })
+  module _ (n : w ≢ none) (hw : w < t .loops) where
+    of-loop : entries (caseOf f t) (factAt f p) ≡ entriesOf (caseOf f t) (caseOf f t .loop w)
+    unfolding entries
+    of-loop = rw (← ew, ne-eqb w none n) refl
+
+    pub entries-alone : getD outers w 0 ≡ 0 → 1 ≡ entries (caseOf f t) (factAt f p)
+    unfolding caseOf
+    entries-alone q = sym (of-loop ∙ outer-alone (caseOf f t) (r .sound .graph) w hw (sym (o .at w hw) ∙ q))
+
+    module _ (some : getD outers w 0 ≢ 0) where
+      next-loop : (getD outers w 0 - 1 < w) × (entriesOf (caseOf f t) (caseOf f t .loop w) ≡ count (caseOf f t) (caseOf f t .loop (getD outers w 0 - 1) .first))
+      unfolding caseOf
+      next-loop =
+          let z : getD outers w 0 ≡ suc (getD outers w 0 - 1) = omega arith in
+          outer-next (caseOf f t) (r .sound .graph) w hw (getD outers w 0 - 1) (sym (o .at w hw) ∙ z)
+
+      pub next-low : getD outers w 0 - 1 < t .loops
+      next-low = omega (arith, next-loop .0)
+
+      pub next-header :
+          (l : Loop) → l ≡ loopAt f t (getD outers w 0 - 1)
+          → (l .first < t .nodes) × ((getD counts (l .first) 0 ≡ entries (caseOf f t) (factAt f p)) × (getD counts (l .first) 0 ≤ mostCount))
+      unfolding caseOf
+      next-header l el =
+          let g = r .sound .graph in
+          let s = g .fits (getD outers w 0 - 1) next-low in
+          let h : loopAt f t (getD outers w 0 - 1) .first < t .nodes = omega (arith, s .0, s .1) in
+          let q = r .counted .at (loopAt f t (getD outers w 0 - 1) .first) h in
+          rw el (h, (q ∙ sym (next-loop .1) ∙ sym of-loop, omega (arith, q, next-loop .1, outer-low (caseOf f t) g w hw)))

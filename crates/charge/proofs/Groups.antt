@@ -1,4 +1,4 @@
--- Amounts by set s and number x below 10: the sums of those of set q with x up to l, and past l, grow and shrink by the sum at one place of a table. Assumes nothing.
+-- Amounts by set s and limit x: the sums of those of set q with x up to l, and past l, grow and shrink by the sum at one place of a table.
 use Prim.Native.Nat.{ℕ, suc, _+_, _≤_, _<_}
 use native.Mathlib.Omega.{arith}
 use native.Mathlib.Decide.{ℕ-discrete, decLe}
@@ -10,15 +10,16 @@ use lib.Dec.{eqb, leb}
 use lib.ListN.{length, getD}
 use Rattle.paper.specs.Lists.{sumTo}
 use Rattle.paper.proofs.Says.{says-le, says-eq, says-not, says-and, says-same}
+use Rattle.charge.specs.Sizes as Sizes
 use Rattle.charge.specs.Tables.{Tallied, placeOf}
 use Rattle.charge.proofs.Sums.{sum-same, sum-both, sum-none}
 
--- a place tells the set and the number
-place-is : (s x q l : ℕ) → x < 10 → l < 10 → eqb (placeOf s x) (placeOf q l) ≡ (eqb s q && eqb x l)
+-- a place tells the set and the limit
+place-is : (s x q l : ℕ) → x < Sizes.limits → l < Sizes.limits → eqb (placeOf s x) (placeOf q l) ≡ (eqb s q && eqb x l)
 place-is s x q l hx hl =
     says-same (λ (h : placeOf s x ≡ placeOf q l). (omega arith, omega arith)) (λ (h : (s ≡ q) × (x ≡ l)). omega arith) (says-eq _ _) (says-and (says-eq s q) (says-eq x l))
 
--- one more number: what it adds to those up to l, and takes from those past l
+-- one more limit: what it adds to those up to l, and takes from those past l
 one-more :
     (b : Bool) (x l a : ℕ)
     → (cond (b && leb x (suc l)) a 0 ≡ cond (b && leb x l) a 0 + cond (b && eqb x (suc l)) a 0)
@@ -42,30 +43,30 @@ module _ (s x a : ℕ → ℕ) (q n : ℕ) where
   unfoldable pub beyond : ℕ → ℕ
   beyond l = sumTo (λ i. cond (eqb (s i) q && not (leb (x i) l)) (a i) 0) n
 
-  module _ (table : List ℕ) (w : Tallied (λ i. placeOf (s i) (x i)) a n table) (room : 640 ≤ length table) (hq : q < 64) (hx : (i : ℕ) → i < n → (1 ≤ x i) × (x i < 10)) where
-    here : (l : ℕ) → l < 10 → getD table (placeOf q l) 0 ≡ sumTo (λ i. cond (eqb (s i) q && eqb (x i) l) (a i) 0) n
+  module _ (table : List ℕ) (w : Tallied (λ i. placeOf (s i) (x i)) a n table) (room : Sizes.setsByLimits ≤ length table) (hq : q < Sizes.sets) (hx : (i : ℕ) → i < n → (1 ≤ x i) × (x i < Sizes.limits)) where
+    here : (l : ℕ) → l < Sizes.limits → getD table (placeOf q l) 0 ≡ sumTo (λ i. cond (eqb (s i) q && eqb (x i) l) (a i) 0) n
     here l hl =
         w .is (placeOf q l) (omega arith)
         ∙ sum-same _ _ n (λ i h. ap (λ (b : Bool). cond b (a i) 0) (place-is (s i) (x i) q l (hx i h .1) hl))
 
-    pub up-more : (l : ℕ) → suc l < 10 → upTo (suc l) ≡ upTo l + getD table (placeOf q (suc l)) 0
+    pub up-more : (l : ℕ) → suc l < Sizes.limits → upTo (suc l) ≡ upTo l + getD table (placeOf q (suc l)) 0
     unfolding upTo
     up-more l hl =
         rw (here (suc l) hl) (sum-both _ _ _ n (λ i h. one-more (eqb (s i) q) (x i) l (a i) .0))
 
-    pub past-more : (l : ℕ) → suc l < 10 → beyond l ≡ beyond (suc l) + getD table (placeOf q (suc l)) 0
+    pub past-more : (l : ℕ) → suc l < Sizes.limits → beyond l ≡ beyond (suc l) + getD table (placeOf q (suc l)) 0
     unfolding beyond
     past-more l hl =
         rw (here (suc l) hl) (sum-both _ _ _ n (λ i h. one-more (eqb (s i) q) (x i) l (a i) .1))
 
-    -- past 8 only 9 is left
-    pub past-last : beyond 8 ≡ getD table (placeOf q 9) 0
+    -- past 8 only those without a limit are left
+    pub past-last : beyond 8 ≡ getD table (placeOf q Sizes.noLimit) 0
     unfolding beyond
     past-last =
-        rw (here 9 (omega arith)) (sum-same _ _ n (λ i h. ap (λ (b : Bool). cond (eqb (s i) q && b) (a i) 0) (last (x i) (hx i h .1))))
+        rw (here Sizes.noLimit (omega arith)) (sum-same _ _ n (λ i h. ap (λ (b : Bool). cond (eqb (s i) q && b) (a i) 0) (last (x i) (hx i h .1))))
       where
-        last : (x : ℕ) → x < 10 → not (leb x 8) ≡ eqb x 9
-        last x h = says-same (λ (n : ¬ (x ≤ 8)). omega arith) (λ (e : x ≡ 9). omega arith) (says-not (says-le x 8)) (says-eq x 9)
+        last : (x : ℕ) → x < Sizes.limits → not (leb x 8) ≡ eqb x Sizes.noLimit
+        last x h = says-same (λ (n : ¬ (x ≤ 8)). omega arith) (λ (e : x ≡ Sizes.noLimit). omega arith) (says-not (says-le x 8)) (says-eq x Sizes.noLimit)
 
   module _ (hx : (i : ℕ) → i < n → 1 ≤ x i) where
     pub up-none : upTo 0 ≡ 0

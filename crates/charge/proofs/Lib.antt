@@ -6,7 +6,9 @@ pub mod Entries
 pub mod Floors
 pub mod Following
 pub mod Groups
+pub mod Last
 pub mod Parts
+pub mod Passing
 pub mod SetSums
 pub mod Small
 pub mod Sums

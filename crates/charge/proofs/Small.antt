@@ -8,12 +8,15 @@ use lib.Dec.{eqb, ltb}
 use lib.ListN.{getD}
 use Rattle.paper.specs.declared.Trailer.{Trailer}
 use Rattle.paper.specs.Machines.{none}
-use Rattle.paper.specs.Graphs.{count, entries}
-use Rattle.paper.specs.Bounds.{g, boundOf, covers, counts, factBound}
+use Rattle.paper.specs.Graphs.{count}
+use Rattle.paper.specs.Bounds.{g, boundOf, covers, counts, entered, factBound}
 use Rattle.paper.specs.Files.{nodeAt, caseOf}
 use Rattle.paper.proofs.Meaning.{SoundHead, Sound}
 use Rattle.paper.specs.Known.{Laid}
-use Rattle.charge.specs.Tables.{entriesIn, weight, FactsAdded, NodesAdded}
+use Rattle.paper.specs.Ceilings.{mostCount}
+use Rattle.formulas.specs.Largest.{largestVisits, largestBound, largestEntered, largestCharged}
+use Rattle.charge.specs.Sizes as Sizes
+use Rattle.charge.specs.Tables.{weight, FactsAdded, NodesAdded}
 use Rattle.charge.proofs.Entries.{entries-low}
 use Rattle.charge.proofs.Sums.{sum-low, cond-low}
 use Rattle.charge.proofs.Tallies.{sets-low, limits-low}
@@ -27,7 +30,7 @@ bound-low p k l E N a h =
 
 module _ (f : List ℕ) (t : Trailer) (laid : Laid f t) (sound : Sound (caseOf f t)) where
   -- "block b lives in set b mod S"
-  pub set-low : (b : ℕ) → b % t .sets < 64
+  pub set-low : (b : ℕ) → b % t .sets < Sizes.sets
   set-low b = let h : 0 < t .sets = omega (arith, laid .sets-low) in omega (arith, mod-lt b h, laid .sets-high)
 
   module _ (i : ℕ) (h : i < t .facts) where
@@ -35,41 +38,41 @@ module _ (f : List ℕ) (t : Trailer) (laid : Laid f t) (sound : Sound (caseOf f
     unfolding caseOf
     fact-head = sound .facts i h .head
 
-    entries-small : entries (caseOf f t) (caseOf f t .fact i) ≤ 4294967295
-    unfolding entries entriesIn
-    entries-small = entries-low (caseOf f t) (sound .graph) (caseOf f t .fact i .scope) (fact-head .scope)
+    entered-low : entered (caseOf f t) (caseOf f t .fact i) ≤ mostCount
+    unfolding entered
+    entered-low = entries-low (caseOf f t) (sound .graph) (caseOf f t .fact i) (fact-head .scope)
 
-    pub fact-small : (factBound (caseOf f t) (caseOf f t .fact i) ≤ 4402341477375) × (entries (caseOf f t) (caseOf f t .fact i) ≤ 4294967295)
+    pub fact-small : (factBound (caseOf f t) (caseOf f t .fact i) ≤ largestBound) × (entered (caseOf f t) (caseOf f t .fact i) ≤ mostCount)
     unfolding factBound counts caseOf
     fact-small = (
-      bound-low (t .policy) (t .ways) (caseOf f t .fact i .limit) (entries (caseOf f t) (caseOf f t .fact i)) _ 4402341477375
+      bound-low (t .policy) (t .ways) (caseOf f t .fact i .limit) (entered (caseOf f t) (caseOf f t .fact i)) _ largestBound
           (omega (
             arith,
-            entries-small,
-            sum-low (λ v. cond (covers (caseOf f t) (caseOf f t .fact i) v) (count (caseOf f t) v) 0) 4294967295 (t .nodes)
+            entered-low,
+            sum-low (λ v. cond (covers (caseOf f t) (caseOf f t .fact i) v) (count (caseOf f t) v) 0) mostCount (t .nodes)
                 (λ v q. cond-low (covers (caseOf f t) (caseOf f t .fact i) v) (sound .graph .counts v q) (omega arith)),
             laid .nodes-high,
           )),
-      entries-small,
+      entered-low,
     )
 
-  pub weight-small : (v : ℕ) → v < t .nodes → weight (caseOf f t) v ≤ 4294967295
+  pub weight-small : (v : ℕ) → v < t .nodes → weight (caseOf f t) v ≤ mostCount
   unfolding weight caseOf
   weight-small v h = cond-low (not (eqb (nodeAt f v) none)) (sound .graph .counts v h) (omega arith)
 
-  module _ (charged entered : List ℕ) (w : FactsAdded (caseOf f t) (t .facts) charged entered) where
-    pub charged-small : (j : ℕ) → j < 64 → getD charged j 0 ≤ 1126999418208000
-    charged-small j l = omega (arith, sets-low _ _ _ _ _ _ _ w 4402341477375 4294967295 fact-small j l, laid .facts-high)
+  module _ (charged entries : List ℕ) (w : FactsAdded (caseOf f t) (t .facts) charged entries) where
+    pub charged-small : (j : ℕ) → j < Sizes.sets → getD charged j 0 ≤ largestCharged
+    charged-small j l = omega (arith, sets-low _ _ _ _ _ _ _ w largestBound mostCount fact-small j l, laid .facts-high)
 
-    pub entered-small : (j : ℕ) → j < 640 → getD entered j 0 ≤ 1099511627520
-    entered-small j l = omega (arith, limits-low _ _ _ _ _ _ _ w 4402341477375 4294967295 fact-small j l, laid .facts-high)
+    pub entered-small : (j : ℕ) → j < Sizes.setsByLimits → getD entries j 0 ≤ largestEntered
+    entered-small j l = omega (arith, limits-low _ _ _ _ _ _ _ w largestBound mostCount fact-small j l, laid .facts-high)
 
   module _ (fetched spent : List ℕ) (w : NodesAdded (caseOf f t) (t .nodes) fetched spent) where
-    both : (v : ℕ) → v < t .nodes → (weight (caseOf f t) v ≤ 4294967295) × (weight (caseOf f t) v ≤ 4294967295)
+    both : (v : ℕ) → v < t .nodes → (weight (caseOf f t) v ≤ mostCount) × (weight (caseOf f t) v ≤ mostCount)
     both v h = (weight-small v h, weight-small v h)
 
-    pub fetched-small : (j : ℕ) → j < 64 → getD fetched j 0 ≤ 4398046510080
-    fetched-small j l = omega (arith, sets-low _ _ _ _ _ _ _ w 4294967295 4294967295 both j l, laid .nodes-high)
+    pub fetched-small : (j : ℕ) → j < Sizes.sets → getD fetched j 0 ≤ largestVisits
+    fetched-small j l = omega (arith, sets-low _ _ _ _ _ _ _ w mostCount mostCount both j l, laid .nodes-high)
 
-    pub spent-small : (j : ℕ) → j < 640 → getD spent j 0 ≤ 4398046510080
-    spent-small j l = omega (arith, limits-low _ _ _ _ _ _ _ w 4294967295 4294967295 both j l, laid .nodes-high)
+    pub spent-small : (j : ℕ) → j < Sizes.setsByLimits → getD spent j 0 ≤ largestVisits
+    spent-small j l = omega (arith, limits-low _ _ _ _ _ _ _ w mostCount mostCount both j l, laid .nodes-high)

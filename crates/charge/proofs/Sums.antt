@@ -1,4 +1,4 @@
--- The laws of sums that the charge needs besides those of a loop that adds, and of a loop's end. Assumes nothing.
+-- The laws of sums that the charge needs besides those of a loop that adds, and of a loop's end.
 use Prim.Native.Nat.{ℕ, zero, suc, _+_, _-_, _*_, _≤_, _<_}
 use native.Mathlib.Omega.{arith}
 use native.Mathlib.Nat.{mul-suc}

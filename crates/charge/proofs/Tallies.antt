@@ -1,4 +1,4 @@
--- The laws of lists to which amounts are added: by key; and by set, and by set and limit. Assumes nothing.
+-- The laws of lists to which amounts are added: by key; and by set, and by set and limit.
 use Prim.Native.Nat.{ℕ, _+_, _*_, _≤_, _<_}
 use native.Mathlib.Omega.{arith}
 use native.Mathlib.Decide.{ℕ-discrete}
@@ -10,6 +10,8 @@ use lib.Dec.{eqb}
 use lib.ListN.{length, getD, length-set, replicate, getD-replicate, length-replicate}
 use lib.Seq.{getD-set-same, getD-set-other}
 use Rattle.paper.specs.Lists.{sumTo}
+use Rattle.formulas.specs.Largest.{largestBound}
+use Rattle.charge.specs.Sizes as Sizes
 use Rattle.charge.specs.Tables.{Tallied, plus, placeOf, Grouped, Open}
 use Rattle.charge.proofs.Sums.{sum-low, cond-low}
 
@@ -39,17 +41,17 @@ module _ (key amount : ℕ → ℕ) where
 
 module _ (s l x y : ℕ → ℕ) where
   -- nothing is added
-  pub grouped-start : Grouped s l x y 0 (replicate 64 0) (replicate 640 0)
+  pub grouped-start : Grouped s l x y 0 (replicate Sizes.sets 0) (replicate Sizes.setsByLimits 0)
   grouped-start =
       record {
-        sets-room = omega (arith, length-replicate {A = ℕ} 64 0);
-        limits-room = omega (arith, length-replicate {A = ℕ} 640 0);
-        by-set = tallied-start _ _ 64;
-        by-limit = tallied-start _ _ 640;
+        sets-room = omega (arith, length-replicate {A = ℕ} Sizes.sets 0);
+        limits-room = omega (arith, length-replicate {A = ℕ} Sizes.setsByLimits 0);
+        by-set = tallied-start _ _ Sizes.sets;
+        by-limit = tallied-start _ _ Sizes.setsByLimits;
       }
 
   module _ (n : ℕ) (sets limits : List ℕ) (w : Grouped s l x y n sets limits) where
-    pub grouped-more : s n < 64 → l n < 10 → Grouped s l x y (n + 1) (plus sets (s n) (x n)) (plus limits (placeOf (s n) (l n)) (y n))
+    pub grouped-more : s n < Sizes.sets → l n < Sizes.limits → Grouped s l x y (n + 1) (plus sets (s n) (x n)) (plus limits (placeOf (s n) (l n)) (y n))
     grouped-more hs hl =
         record {
           sets-room = omega (arith, w .sets-room, length-set sets (s n) (getD sets (s n) 0 + x n));
@@ -59,18 +61,18 @@ module _ (s l x y : ℕ → ℕ) where
         }
 
     module _ (a b : ℕ) (low : (i : ℕ) → i < n → (x i ≤ a) × (y i ≤ b)) where
-      pub sets-low : (j : ℕ) → j < 64 → getD sets j 0 ≤ a * n
+      pub sets-low : (j : ℕ) → j < Sizes.sets → getD sets j 0 ≤ a * n
       sets-low j h = tallied-low _ _ n sets (w .by-set) a (λ i q. low i q .0) j (omega (arith, w .sets-room))
 
-      pub limits-low : (j : ℕ) → j < 640 → getD limits j 0 ≤ b * n
+      pub limits-low : (j : ℕ) → j < Sizes.setsByLimits → getD limits j 0 ≤ b * n
       limits-low j h = tallied-low _ _ n limits (w .by-limit) b (λ i q. low i q .1) j (omega (arith, w .limits-room))
 
     -- so few so small amounts do not wrap
     pub grouped-open :
-        s n < 64 → l n < 10 → n < 1024 → ((i : ℕ) → i < n + 1 → (x i ≤ 4402341477375) × (y i ≤ 4402341477375)) → Open sets limits (s n) (l n) (x n) (y n)
+        s n < Sizes.sets → l n < Sizes.limits → n < Sizes.nodes → ((i : ℕ) → i < n + 1 → (x i ≤ largestBound) × (y i ≤ largestBound)) → Open sets limits (s n) (l n) (x n) (y n)
     grouped-open hs hl hn low =
-        let k : (i : ℕ) → i < n → (x i ≤ 4402341477375) × (y i ≤ 4402341477375) = λ i q. low i (omega arith) in
-        let h : (x n ≤ 4402341477375) × (y n ≤ 4402341477375) = low n (omega arith) in
+        let k : (i : ℕ) → i < n → (x i ≤ largestBound) × (y i ≤ largestBound) = λ i q. low i (omega arith) in
+        let h : (x n ≤ largestBound) × (y n ≤ largestBound) = low n (omega arith) in
         record {
           set = hs;
           limit = hl;

@@ -1,4 +1,4 @@
--- The laws of the loop that adds the nodes. Assumes nothing.
+-- The laws of the loop that adds the nodes.
 use Prim.Native.Nat.{ℕ, _+_, _%_, _≤_, _<_}
 use native.Mathlib.Omega.{arith}
 use mathlib.Core.Path.{_≡_}
@@ -10,7 +10,8 @@ use Rattle.paper.specs.declared.Trailer.{Trailer}
 use Rattle.paper.specs.Machines.{none}
 use Rattle.paper.specs.Files.{nodeAt, caseOf}
 use Rattle.charge.specs.Ready.{Ready}
-use Rattle.charge.specs.Tables.{plus, placeOf, Open, weight, Covered, NodesAdded}
+use Rattle.charge.specs.Chained.{Covered}
+use Rattle.charge.specs.Tables.{plus, placeOf, Open, weight, NodesAdded}
 use Rattle.charge.proofs.Cover.{lowest-high}
 use Rattle.charge.proofs.Small.{set-low, weight-small}
 use Rattle.charge.proofs.Sums.{at-end}

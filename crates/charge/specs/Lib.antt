@@ -1,4 +1,7 @@
+pub mod Chained
+pub mod NextOut
 pub mod Placed
 pub mod Ready
+pub mod Sizes
 pub mod Summed
 pub mod Tables

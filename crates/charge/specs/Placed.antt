@@ -1,4 +1,4 @@
--- The places of the facts, as the rules 11 to 15 leave them. Assumes nothing.
+-- The places of the facts, as the rules 11 to 15 leave them.
 use Prim.Native.Nat.{ℕ, _≤_, _<_}
 use mathlib.Core.List.{List}
 use Rattle.paper.specs.declared.Trailer.{Trailer}

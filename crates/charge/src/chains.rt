@@ -3,11 +3,19 @@ ghost use mathlib.Core.Path.{_≡_};
 ghost use mathlib.Core.Bool.{cond, _&&_};
 ghost use Prim.Native.Nat.{_<_, _≤_, min};
 ghost use lib.Dec.{eqb, leb};
+ghost use Rattle.paper.specs.Bounds as Bounds;
 ghost use Rattle.paper.specs.Files as Files;
 ghost use Rattle.paper.specs.Known.{Laid};
+ghost use Rattle.formulas.specs.Largest as Largest;
+ghost use Rattle.charge.specs.Chained as Chained;
 ghost use Rattle.charge.specs.Ready.{Ready};
-ghost use Rattle.charge.specs.Tables as Tables;
+ghost use Rattle.charge.specs.Sizes as Sizes;
 use crate::amounts;
+use crate::heads::Head;
+use crate::sizes::BUCKETS;
+use crate::sizes::CHAINED;
+use crate::sizes::NO_LIMIT;
+use crate::sizes::NODES;
 use paper::Trailer;
 
 // Node v, not before the range, is in it and fetches b.
@@ -20,57 +28,53 @@ fn fetches_to(file: &[u8], t: Trailer, last: u16, b: u16, v: u16) -> bool
 }
 
 fn lower_if(hit: bool, l: u16, old: u16) -> u16
-    ensures { λ r. ⌜ r ≡ min old (cond hit l 9) ⌝ }
+    ensures { λ r. ⌜ r ≡ min old (cond hit l Sizes.noLimit) ⌝ }
 {
-    let x = if hit { l } else { 9 };
+    let x = if hit { l } else { NO_LIMIT };
     if x < old { x } else { old }
 }
 
-// The nodes by their blocks mod 1,024: place h holds the last node of bucket h, place 1,024 + v the one before v in its bucket, each plus 1, and 0 where there is none.
-pub fn chain_nodes(file: &[u8], t: Trailer, chain: &mut [u16; 2048])
+// The nodes by their blocks' buckets: place h holds the last node of bucket h, and after the buckets place v the one before v in its bucket, each plus 1, and 0 where there is none.
+pub fn chain_nodes(file: &[u8], t: Trailer, chain: &mut [u16; CHAINED])
     requires { ⌜ Laid (now file) t ⌝ }
-    requires { ⌜ Tables.Chained (Files.caseOf (now file) t) 0 (now chain) ⌝ }
-    ensures { λ r. ⌜ Tables.Chained (Files.caseOf (now (file .entry)) t) (t .nodes) (now (chain .exit)) ⌝ }
+    requires { ⌜ Chained.Chained (Files.caseOf (now file) t) 0 (now chain) ⌝ }
+    ensures { λ r. ⌜ Chained.Chained (Files.caseOf (now (file .entry)) t) (t .nodes) (now (chain .exit)) ⌝ }
 {
     let n = t.nodes;
     let mut v: u16 = 0;
     while v < n {
-        let h = (layout::node_at(file, t, v) % 1024) as usize;
-        chain[1024 + v as usize] = chain[h];
+        let h = (layout::node_at(file, t, v) % BUCKETS) as usize;
+        chain[BUCKETS as usize + v as usize] = chain[h];
         chain[h] = v + 1;
         v += 1;
     }
 }
 
-// N: "the sum of counts of its nodes that fetch b"; and those nodes are covered by a fact of limit l. Only nodes of b's bucket are looked at.
+// N: "the sum of counts of its nodes that fetch b"; and those nodes are covered by a fact of its limit. Only nodes of b's bucket are looked at.
 pub fn cover_nodes(
     file: &[u8],
     t: Trailer,
     counts: &[u32],
-    chain: &[u16; 2048],
-    first: u16,
-    last: u16,
-    b: u16,
-    l: u16,
-    cover: &mut [u16; 1024],
+    chain: &[u16; CHAINED],
+    h: Head,
+    cover: &mut [u16; NODES],
 ) -> u64
     requires { ⌜ Ready (now file) t (now counts) ⌝ }
-    requires { ⌜ Tables.Chained (Files.caseOf (now file) t) (t .nodes) (now chain) ⌝ }
-    requires { ⌜ Tables.Limits (Files.caseOf (now file) t) (now cover) ⌝ }
-    ensures { λ r. ⌜ r ≡ Tables.visitsIn (Files.caseOf (now (file .entry)) t) first last b ⌝ }
-    ensures { λ r. ⌜ r ≤ 4398046510080 ⌝ }
-    ensures { λ r. ⌜ Tables.Lowered (Files.caseOf (now (file .entry)) t) (Tables.fetchesIn (Files.caseOf (now (file .entry)) t) first last b) l (now (cover .entry)) (now (cover .exit)) ⌝ }
+    requires { ⌜ Chained.Chained (Files.caseOf (now file) t) (t .nodes) (now chain) ⌝ }
+    requires { ⌜ Chained.Limits (Files.caseOf (now file) t) (now cover) ⌝ }
+    ensures { λ r. ⌜ r ≡ Bounds.counts (Files.caseOf (now (file .entry)) t) (Bounds.fetchesIn (Files.caseOf (now (file .entry)) t) (h .range) (h .block)) ⌝ }
+    ensures { λ r. ⌜ r ≤ Largest.largestVisits ⌝ }
+    ensures { λ r. ⌜ Chained.Lowered (Files.caseOf (now (file .entry)) t) (Bounds.fetchesIn (Files.caseOf (now (file .entry)) t) (h .range) (h .block)) (h .limit) (now (cover .entry)) (now (cover .exit)) ⌝ }
 {
-    let h = (b % 1024) as usize;
     let mut n: u64 = 0;
-    let mut c: u16 = chain[h];
-    while first < c {
+    let mut c: u16 = chain[(h.block % BUCKETS) as usize];
+    while h.range.first < c {
         let v = c - 1;
         let at = v as usize;
-        let hit = fetches_to(file, t, last, b, v);
+        let hit = fetches_to(file, t, h.range.last, h.block, v);
         n += amounts::count_if(hit, counts[at]);
-        cover[at] = lower_if(hit, l, cover[at]);
-        c = chain[1024 + at];
+        cover[at] = lower_if(hit, h.limit, cover[at]);
+        c = chain[BUCKETS as usize + at];
     }
     n
 }

@@ -11,48 +11,52 @@ ghost use Rattle.layout.specs.Counted.{Counted};
 ghost use Rattle.charge.specs.Placed.{Placed};
 ghost use Rattle.charge.specs.Tables as Tables;
 use paper::Trailer;
+use sizes::LIST_LENGTH;
+use sizes::NO_LIMIT;
+use sizes::NODES;
+use sizes::SETS;
+use sizes::SETS_BY_LIMITS;
 
 mod amounts;
 mod chains;
 mod facts;
-mod formulas;
+mod heads;
 mod nodes;
+mod outers;
 mod sets;
+mod sizes;
 
-// All 321 numbers 0.
+// All numbers 0.
 fn clear(bounds: &mut [u64])
-    requires { ⌜ 321 ≤ length (now bounds) ⌝ }
-    ensures { λ r. ⌜ now (bounds .exit) ≡ Tables.zeros ++ drop 321 (now (bounds .entry)) ⌝ }
+    requires { ⌜ Bounds.listLength ≤ length (now bounds) ⌝ }
+    ensures { λ r. ⌜ now (bounds .exit) ≡ Tables.zeros ++ drop Bounds.listLength (now (bounds .entry)) ⌝ }
 {
     let mut i: usize = 0;
-    while i < 321 {
+    while i < LIST_LENGTH {
         bounds[i] = 0;
         i += 1;
     }
 }
 
-// The 321 numbers: "the total, 64 set bounds, 256 fact bounds, unused ones 0, later ones untouched".
+// All numbers: "the total, 64 set bounds, 256 fact bounds, unused ones 0, later ones untouched".
 pub fn charge(file: &[u8], t: Trailer, counts: &[u32], bounds: &mut [u64])
     requires { ⌜ Laid (now file) t ⌝ }
     requires { ⌜ Sound (Files.caseOf (now file) t) ⌝ }
     requires { ⌜ Placed (now file) t ⌝ }
     requires { ⌜ Counted (now file) t (now counts) ⌝ }
-    requires { ⌜ 321 ≤ length (now bounds) ⌝ }
-    ensures { λ r. ⌜ now (bounds .exit) ≡ Bounds.numbers (Files.caseOf (now (file .entry)) t) ++ drop 321 (now (bounds .entry)) ⌝ }
+    requires { ⌜ Bounds.listLength ≤ length (now bounds) ⌝ }
+    ensures { λ r. ⌜ now (bounds .exit) ≡ Bounds.numbers (Files.caseOf (now (file .entry)) t) ++ drop Bounds.listLength (now (bounds .entry)) ⌝ }
 {
-    let mut chain: [u16; 2048] = [0; 2048];
-    let mut cover: [u16; 1024] = [9; 1024];
-    let mut charged: [u64; 64] = [0; 64];
-    let mut entered: [u64; 640] = [0; 640];
-    let mut fetched: [u64; 64] = [0; 64];
-    let mut spent: [u64; 640] = [0; 640];
+    let mut cover: [u16; NODES] = [NO_LIMIT; NODES];
+    let mut charged: [u64; SETS] = [0; SETS];
+    let mut entered: [u64; SETS_BY_LIMITS] = [0; SETS_BY_LIMITS];
+    let mut fetched: [u64; SETS] = [0; SETS];
+    let mut spent: [u64; SETS_BY_LIMITS] = [0; SETS_BY_LIMITS];
     clear(bounds);
-    chains::chain_nodes(file, t, &mut chain);
     facts::charge_facts(
         file,
         t,
         counts,
-        &chain,
         &mut cover,
         &mut charged,
         &mut entered,

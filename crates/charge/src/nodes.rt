@@ -1,8 +1,12 @@
 // The pass over the nodes.
 ghost use Rattle.paper.specs.Files as Files;
+ghost use Rattle.charge.specs.Chained as Chained;
 ghost use Rattle.charge.specs.Ready.{Ready};
 ghost use Rattle.charge.specs.Tables as Tables;
 use crate::amounts;
+use crate::sizes::NODES;
+use crate::sizes::SETS;
+use crate::sizes::SETS_BY_LIMITS;
 use paper::Trailer;
 
 // All nodes: their counts by set, and by set and the least limit that covers them.
@@ -10,12 +14,12 @@ pub fn charge_nodes(
     file: &[u8],
     t: Trailer,
     counts: &[u32],
-    cover: &[u16; 1024],
-    fetched: &mut [u64; 64],
-    spent: &mut [u64; 640],
+    cover: &[u16; NODES],
+    fetched: &mut [u64; SETS],
+    spent: &mut [u64; SETS_BY_LIMITS],
 )
     requires { ⌜ Ready (now file) t (now counts) ⌝ }
-    requires { ⌜ Tables.Covered (Files.caseOf (now file) t) (t .facts) (now cover) ⌝ }
+    requires { ⌜ Chained.Covered (Files.caseOf (now file) t) (t .facts) (now cover) ⌝ }
     requires { ⌜ Tables.NodesAdded (Files.caseOf (now file) t) 0 (now fetched) (now spent) ⌝ }
     ensures { λ r. ⌜ Tables.NodesAdded (Files.caseOf (now (file .entry)) t) (t .nodes) (now (fetched .exit)) (now (spent .exit)) ⌝ }
 {

@@ -4,24 +4,30 @@ ghost use Prim.Native.Nat.{_<_, _≤_};
 ghost use Rattle.paper.specs.Lists.{lowestTo};
 ghost use Rattle.paper.specs.Bounds as Bounds;
 ghost use Rattle.paper.specs.Files as Files;
+ghost use Rattle.formulas.specs.Largest as Largest;
+ghost use Rattle.charge.specs.Sizes as Sizes;
 ghost use Rattle.charge.specs.Summed.{Summed};
 ghost use Rattle.charge.specs.Tables as Tables;
-use crate::formulas;
+use crate::sizes::LIMITS;
+use crate::sizes::NO_LIMIT;
+use crate::sizes::SETS;
+use crate::sizes::SETS_BY_LIMITS;
+use crate::sizes::SETS_FROM;
 use paper::Trailer;
 
 // "the least of A and, for each l from 1 to k, floor(k·M(l)/(k-l+1))": M(l) is M(l-1), with the entries of the facts of limit l for the counts that they cover.
 fn least_floor(
     file: &[u8],
     t: Trailer,
-    charged: &[u64; 64],
-    entered: &[u64; 640],
-    fetched: &[u64; 64],
-    spent: &[u64; 640],
+    charged: &[u64; SETS],
+    entered: &[u64; SETS_BY_LIMITS],
+    fetched: &[u64; SETS],
+    spent: &[u64; SETS_BY_LIMITS],
     q: usize,
     a: u64,
 ) -> u64
     requires { ⌜ Summed (now file) t (now charged) (now entered) (now fetched) (now spent) ⌝ }
-    requires { ⌜ q < 64 ⌝ }
+    requires { ⌜ q < Sizes.sets ⌝ }
     ensures { λ r. ⌜ r ≡ lowestTo (Bounds.floorAt (Files.caseOf (now (file .entry)) t) q) a (t .ways) ⌝ }
     ensures { λ r. ⌜ r ≤ a ⌝ }
 {
@@ -31,7 +37,7 @@ fn least_floor(
     let mut j: u64 = 0;
     while j < k {
         let l = j + 1;
-        let at = 10 * q + l as usize;
+        let at = LIMITS * q + l as usize;
         m = m + entered[at] - spent[at];
         x = formulas::lesser(x, formulas::floor_of(t, l, m));
         j = l;
@@ -43,18 +49,18 @@ fn least_floor(
 fn set_bound(
     file: &[u8],
     t: Trailer,
-    charged: &[u64; 64],
-    entered: &[u64; 640],
-    fetched: &[u64; 64],
-    spent: &[u64; 640],
+    charged: &[u64; SETS],
+    entered: &[u64; SETS_BY_LIMITS],
+    fetched: &[u64; SETS],
+    spent: &[u64; SETS_BY_LIMITS],
     q: usize,
 ) -> u64
     requires { ⌜ Summed (now file) t (now charged) (now entered) (now fetched) (now spent) ⌝ }
-    requires { ⌜ q < 64 ⌝ }
+    requires { ⌜ q < Sizes.sets ⌝ }
     ensures { λ r. ⌜ r ≡ Bounds.setBound (Files.caseOf (now (file .entry)) t) q ⌝ }
-    ensures { λ r. ⌜ r ≤ 1131397464718080 ⌝ }
+    ensures { λ r. ⌜ r ≤ Largest.largestA ⌝ }
 {
-    let a = charged[q] + spent[10 * q + 9];
+    let a = charged[q] + spent[LIMITS * q + NO_LIMIT as usize];
     if t.policy == 1 {
         return least_floor(file, t, charged, entered, fetched, spent, q, a);
     }
@@ -65,10 +71,10 @@ fn set_bound(
 pub fn charge_sets(
     file: &[u8],
     t: Trailer,
-    charged: &[u64; 64],
-    entered: &[u64; 640],
-    fetched: &[u64; 64],
-    spent: &[u64; 640],
+    charged: &[u64; SETS],
+    entered: &[u64; SETS_BY_LIMITS],
+    fetched: &[u64; SETS],
+    spent: &[u64; SETS_BY_LIMITS],
     bounds: &mut [u64],
 )
     requires { ⌜ Summed (now file) t (now charged) (now entered) (now fetched) (now spent) ⌝ }
@@ -80,7 +86,7 @@ pub fn charge_sets(
     let mut q: usize = 0;
     while q < n {
         let x = set_bound(file, t, charged, entered, fetched, spent, q);
-        bounds[1 + q] = x;
+        bounds[SETS_FROM + q] = x;
         total += x;
         q += 1;
     }

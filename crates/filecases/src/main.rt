@@ -24,7 +24,7 @@ fn checked(out: &mut [u8], words: &[u8], file: &[u8])
     print::send(out, end);
 }
 
-fn built(out: &mut [u8], words: &[u8], policy: u8, ways: u8, loops: usize, bound: u64)
+fn built(out: &mut [u8], words: &[u8], policy: u8, ways: u8, loops: u16, bound: u64)
     requires { ⌜ length (now words) + 50 ≤ length (now out) ⌝ }
     requires { ⌜ loops ≤ 2 ⌝ }
 {

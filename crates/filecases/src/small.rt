@@ -1,64 +1,89 @@
 // A small case file: two nodes that fetch nothing, no edge, no fact, and up to two loops, one inside the other.
 use frames::numbers::put;
-ghost use mathlib.Core.Path.{_≡_};
-ghost use Prim.Native.Nat.{_+_, _*_, _≤_};
+use layout::places;
+use paper::Trailer;
+ghost use Prim.Native.Nat.{_+_, _≤_};
 ghost use lib.ListN.{length};
+ghost use Rattle.paper.specs.Files.{factsAt};
+ghost use Rattle.paper.specs.Records.{trailerSize};
 
 // Loop j goes from node j to node 1.
-fn put_loops(file: &mut [u8], loops: usize, bound: u64)
-    requires { ⌜ 4 + 8 * loops ≤ length (now file) ⌝ }
+fn put_loops(file: &mut [u8], t: Trailer, bound: u64)
+    requires { ⌜ factsAt t ≤ length (now file) ⌝ }
 {
-    let mut j = 0;
-    while j < loops {
-        put(file, 4 + 8 * j, 2, j as u64);
-        put(file, 6 + 8 * j, 2, 1);
-        put(file, 8 + 8 * j, 4, bound);
+    let mut j: u16 = 0;
+    while j < t.loops {
+        let at = places::loop_place(t, j);
+        put(file, at, 2, j as u64);
+        put(file, at + places::LAST_FIELD, 2, 1);
+        put(file, at + places::BOUND_FIELD, 4, bound);
         j += 1;
     }
 }
 
 // "four 32-bit offsets (nodes, edges, loops, facts)": the facts would stand where the trailer does.
-fn put_offsets(file: &mut [u8], at: usize)
-    requires { ⌜ at + 16 ≤ length (now file) ⌝ }
+fn put_offsets(file: &mut [u8], t: Trailer)
+    requires { ⌜ factsAt t + trailerSize ≤ length (now file) ⌝ }
 {
-    put(file, at, 4, 0);
-    put(file, at + 4, 4, 4);
-    put(file, at + 8, 4, 4);
-    put(file, at + 12, 4, at as u64);
+    let end = places::facts_at(t);
+    put(file, end, 4, 0);
+    put(
+        file,
+        end + places::EDGES_OFFSET,
+        4,
+        places::edges_at(t) as u64,
+    );
+    put(
+        file,
+        end + places::LOOPS_OFFSET,
+        4,
+        places::loops_at(t) as u64,
+    );
+    put(file, end + places::FACTS_OFFSET, 4, end as u64);
 }
 
 // "16-bit numbers of nodes, edges, loops, facts"
-fn put_numbers(file: &mut [u8], at: usize, loops: usize)
-    requires { ⌜ at + 8 ≤ length (now file) ⌝ }
+fn put_numbers(file: &mut [u8], t: Trailer)
+    requires { ⌜ factsAt t + trailerSize ≤ length (now file) ⌝ }
 {
-    put(file, at, 2, 2);
-    put(file, at + 2, 2, 0);
-    put(file, at + 4, 2, loops as u64);
-    put(file, at + 6, 2, 0);
+    let end = places::facts_at(t);
+    put(file, end + places::NODES_FIELD, 2, t.nodes as u64);
+    put(file, end + places::EDGES_FIELD, 2, t.edges as u64);
+    put(file, end + places::LOOPS_FIELD, 2, t.loops as u64);
+    put(file, end + places::FACTS_FIELD, 2, t.facts as u64);
 }
 
 // "policy, ways, sets, version 1, one byte each; then the four letters QMBT"
-fn put_cache(file: &mut [u8], at: usize, policy: u8, ways: u8)
-    requires { ⌜ at + 8 ≤ length (now file) ⌝ }
+fn put_cache(file: &mut [u8], t: Trailer)
+    requires { ⌜ factsAt t + trailerSize ≤ length (now file) ⌝ }
 {
-    put(file, at, 1, policy as u64);
-    put(file, at + 1, 1, ways as u64);
-    put(file, at + 2, 1, 1);
-    put(file, at + 3, 1, 1);
-    print::word(file, at + 4, b"QMBT");
+    let end = places::facts_at(t);
+    put(file, end + places::POLICY_FIELD, 1, t.policy as u64);
+    put(file, end + places::WAYS_FIELD, 1, t.ways as u64);
+    put(file, end + places::SETS_FIELD, 1, t.sets as u64);
+    put(file, end + places::VERSION_FIELD, 1, 1);
+    print::word(file, end + places::LETTERS_FIELD, b"QMBT");
 }
 
 // Puts the file at the start of the bytes, and answers its length.
-pub fn put_case(file: &mut [u8], policy: u8, ways: u8, loops: usize, bound: u64) -> usize
+pub fn put_case(file: &mut [u8], policy: u8, ways: u8, loops: u16, bound: u64) -> usize
     requires { ⌜ loops ≤ 2 ⌝ }
     requires { ⌜ 52 ≤ length (now file) ⌝ }
-    ensures { λ r. ⌜ r ≡ 36 + 8 * loops ⌝ }
+    ensures { λ r. ⌜ r ≤ 52 ⌝ }
 {
+    let t = Trailer {
+        nodes: 2,
+        edges: 0,
+        loops: loops,
+        facts: 0,
+        policy: policy,
+        ways: ways,
+        sets: 1,
+    };
     put(file, 0, 4, 4294967295);
-    put_loops(file, loops, bound);
-    let end = 4 + 8 * loops;
-    put_offsets(file, end);
-    put_numbers(file, end + 16, loops);
-    put_cache(file, end + 24, policy, ways);
-    end + 32
+    put_loops(file, t, bound);
+    put_offsets(file, t);
+    put_numbers(file, t);
+    put_cache(file, t);
+    places::facts_at(t) + places::TRAILER_SIZE
 }

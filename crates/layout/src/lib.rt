@@ -9,7 +9,7 @@ ghost use Rattle.layout.specs.Layouts as Layouts;
 
 mod bytes;
 mod facts;
-mod places;
+pub mod places;
 mod sections;
 
 pub use bytes::u16_at;
@@ -36,11 +36,12 @@ use places::LOOPS_OFFSET;
 use places::NODES_FIELD;
 use places::POLICY_FIELD;
 use places::SETS_FIELD;
-pub use places::TRAILER_SIZE;
+use places::TRAILER_SIZE;
 use places::VERSION_FIELD;
 use places::WAYS_FIELD;
 use places::edges_at;
 pub use places::end_of;
+pub use places::fact_end;
 pub use places::facts_at;
 use places::loops_at;
 pub use places::row_place;

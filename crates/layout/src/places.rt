@@ -2,8 +2,10 @@
 ghost use mathlib.Core.Path.{_≡_};
 ghost use Prim.Native.Nat.{_*_, _≤_};
 ghost use lib.ListN.{length};
+ghost use Rattle.paper.specs.Cases.{size};
 ghost use Rattle.paper.specs.Files as Files;
 ghost use Rattle.paper.specs.Records as Records;
+use paper::Loop;
 use paper::Trailer;
 
 // Sizes of the records, in bytes.
@@ -116,4 +118,13 @@ pub fn row_place(file: &[u8], p: usize, j: u16) -> usize
     ensures { λ r. ⌜ r ≡ Files.rowPlace p j ⌝ }
 {
     p + HEAD_SIZE + rows_size(j)
+}
+
+// Where the fact that stands at p ends, if its scope is s: one row for each of its nodes.
+pub fn fact_end(file: &[u8], p: usize, s: Loop) -> usize
+    requires { ⌜ s .first ≤ s .last ⌝ }
+    requires { ⌜ Files.rowPlace p (size s) ≤ length (now file) ⌝ }
+    ensures { λ r. ⌜ r ≡ Files.rowPlace p (size s) ⌝ }
+{
+    p + HEAD_SIZE + ROW_SIZE * ((s.last - s.first) as usize + 1)
 }

@@ -6,6 +6,7 @@ ghost use Rattle.paper.specs.Verdicts as Verdicts;
 ghost use Rattle.print.specs.Put.{Fits, Put};
 ghost use Rattle.listing.specs.Listed as Listed;
 use layout::Layout;
+use paper::LONGEST_INPUT;
 use paper::Refusal;
 use paper::Verdict;
 
@@ -65,7 +66,7 @@ fn checked(file: &[u8], out: &mut [u8; LONGEST]) -> usize
 pub fn listing(input: &[u8], out: &mut [u8; LONGEST]) -> usize
     ensures { λ r. ⌜ Listed.Printed (listingOf (now (input .entry))) (now (out .entry)) r (now (out .exit)) ⌝ }
 {
-    if input.len() > 65536 {
+    if input.len() > LONGEST_INPUT {
         refused(out, paper::refuse(28, 0))
     } else {
         checked(input, out)

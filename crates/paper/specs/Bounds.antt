@@ -1,8 +1,9 @@
--- "The bounds": the paper's table line by line, the sums A and M(l), and the 321 numbers.
+-- "The bounds": the paper's table line by line, the sums A and M(l), and the list of numbers.
 use Prim.Native.Nat.{ℕ, suc, _+_, _-_, _*_, _/_, _%_, min}
 use mathlib.Core.Bool.{Bool, true, cond, not, _&&_, _||_}
 use mathlib.Core.List.{List}
 use lib.Dec.{eqb, ltb, leb}
+use Rattle.paper.specs.declared.Loop.{Loop}
 use Rattle.paper.specs.Lists.{some, sumTo, lowestTo, table}
 use Rattle.paper.specs.Machines.{none}
 use Rattle.paper.specs.Cases.{Fact, Case, inside, scopeOf}
@@ -16,29 +17,59 @@ ceil k n = (k + (n - 1)) / n
 abbrev pub g : ℕ → ℕ → ℕ
 g k l = ceil k (l - 1)
 
--- The table: policy, ways k, limit l, entries E and fetches N.
+-- The table, a policy's lines each: ways k, limit l, entries E and fetches N.
+-- "LRU: E"
+abbrev pub lruBound : ℕ → ℕ → ℕ → ℕ → ℕ
+lruBound k l E N = E
+
+-- "FIFO, l = 1: E"; "FIFO, l >= 2: E + floor((N-E)/g)"
+abbrev pub fifoBound : ℕ → ℕ → ℕ → ℕ → ℕ
+fifoBound k l E N = cond (ltb l 2) E (E + (N - E) / g k l)
+
+-- "NMRU, l = 1: E"; "NMRU, l >= 2: the lesser of N and l times E"
+abbrev pub nmruBound : ℕ → ℕ → ℕ → ℕ → ℕ
+nmruBound k l E N = cond (ltb l 2) E (min N (l * E))
+
+-- "bound of a fact", by policy
 unfoldable pub boundOf : ℕ → ℕ → ℕ → ℕ → ℕ → ℕ
-boundOf policy k l E N =
-    cond (eqb policy 0) E
-    (cond (eqb policy 1) (cond (ltb l 2) E (E + (N - E) / g k l))
-    (cond (ltb l 2) E (min N (l * E))))
+boundOf policy k l E N = cond (eqb policy 0) (lruBound k l E N) (cond (eqb policy 1) (fifoBound k l E N) (nmruBound k l E N))
 
 -- "floor(k·M(l)/(k-l+1))", for the number M
 unfoldable pub floorOf : ℕ → ℕ → ℕ → ℕ
 floorOf k l M = (k * M) / (suc k - l)
 
+-- "writes 321 64-bit numbers to a lent list: the total, 64 set bounds, 256 fact bounds": so many numbers, because a cache has at most 64 sets and a file at most 256 facts.
+abbrev pub listLength : ℕ
+listLength = 321
+
+-- where among them the set bounds begin, after the total
+abbrev pub setsFrom : ℕ
+setsFrom = 1
+
+-- and the fact bounds, after 64 set bounds
+abbrev pub factsFrom : ℕ
+factsFrom = 65
+
 module _ (e : Case) where
+  -- the node is in the range and fetches b
+  abbrev pub fetchesIn : Loop → ℕ → ℕ → Bool
+  fetchesIn s b v = inside s v && eqb (e .block v) b
+
   -- the fact covers the node: it is in the scope and fetches b
   unfoldable pub covers : Fact → ℕ → Bool
-  covers t v = inside (scopeOf e t) v && eqb (e .block v) (t .block)
+  covers t v = fetchesIn (scopeOf e t) (t .block) v
 
   -- the sum of the counts of the nodes that pass
   unfoldable pub counts : (ℕ → Bool) → ℕ
   counts test = sumTo (λ v. cond (test v) (count e v) 0) (e .nodes)
 
-  -- "E is its entries, N the sum of counts of its nodes that fetch b."
+  -- "E is its entries": what a fact is charged with, in its bound and in M(l).
+  unfoldable pub entered : Fact → ℕ
+  entered t = entries e t
+
+  -- "N the sum of counts of its nodes that fetch b"
   unfoldable pub factBound : Fact → ℕ
-  factBound t = boundOf (e .policy) (e .ways) (t .limit) (entries e t) (counts (covers t))
+  factBound t = boundOf (e .policy) (e .ways) (t .limit) (entered t) (counts (covers t))
 
   -- the block lives in set q
   unfoldable pub lives : ℕ → ℕ → Bool
@@ -65,26 +96,34 @@ module _ (e : Case) where
 
   -- "M(l) of a set is the sum of E over its facts with limit at most l, plus the counts of fetching nodes that no such fact covers."
   unfoldable pub M : ℕ → ℕ → ℕ
-  M l q = sumOf (upTo l) (entries e) q
+  M l q = sumOf (upTo l) entered q
 
   -- "for each l from 1 to k, floor(k·M(l)/(k-l+1))"
   unfoldable pub floorAt : ℕ → ℕ → ℕ
   floorAt q j = floorOf (e .ways) (suc j) (M (suc j) q)
 
-  -- "Set bound: for LRU and NMRU, A. For FIFO, the least of A and" the floors
+  -- "For FIFO, the least of A and" the floors
+  abbrev pub fifoSetBound : ℕ → ℕ
+  fifoSetBound q = lowestTo (floorAt q) (A q) (e .ways)
+
+  -- "Set bound: for LRU and NMRU, A."
   unfoldable pub setBound : ℕ → ℕ
-  setBound q = cond (eqb (e .policy) 1) (lowestTo (floorAt q) (A q) (e .ways)) (A q)
+  setBound q = cond (eqb (e .policy) 1) (fifoSetBound q) (A q)
 
   -- "Total: the sum over sets."
   unfoldable pub totalBound : ℕ
   totalBound = sumTo setBound (e .sets)
 
-  -- "the total, 64 set bounds, 256 fact bounds, unused ones 0": number i of the 321
+  -- number i where the total is T, and the first Q sets and the first I facts have their bounds: "unused ones 0"
+  abbrev pub partAt : ℕ → ℕ → ℕ → ℕ → ℕ
+  partAt T Q I i =
+      cond (ltb i setsFrom) T
+      (cond (ltb i factsFrom) (cond (ltb (i - setsFrom) Q) (setBound (i - setsFrom)) 0)
+      (cond (ltb (i - factsFrom) I) (factBound (e .fact (i - factsFrom))) 0))
+
+  -- "the total, 64 set bounds, 256 fact bounds, unused ones 0": number i of all
   unfoldable pub numberAt : ℕ → ℕ
-  numberAt i =
-      cond (ltb i 1) totalBound
-      (cond (ltb i 65) (cond (ltb (i - 1) (e .sets)) (setBound (i - 1)) 0)
-      (cond (ltb (i - 65) (e .facts)) (factBound (e .fact (i - 65))) 0))
+  numberAt i = partAt totalBound (e .sets) (e .facts) i
 
   abbrev pub numbers : List ℕ
-  numbers = table numberAt 321
+  numbers = table numberAt listLength

@@ -76,8 +76,8 @@ rowSize = sizeOf rowFields
 abbrev pub slotsField : ℕ
 slotsField = offset rowFields 1
 
--- "The last 32 bytes point back": "32-bit offsets of nodes, edges, loops, facts; 16-bit numbers of nodes, edges, loops, facts; policy, ways, sets, version 1, one byte each;
--- the four letters QMBT"
+-- "The last 32 bytes point back: four 32-bit offsets (nodes, edges, loops, facts); 16-bit numbers of nodes, edges, loops, facts; policy …, ways, sets, version 1, one byte each;
+-- then the four letters QMBT."
 abbrev pub trailerFields : List ℕ
 trailerFields =
     bits32 ∷ bits32 ∷ bits32 ∷ bits32

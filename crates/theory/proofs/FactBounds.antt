@@ -9,9 +9,8 @@ use mathlib.Core.List.{List}
 use borrow.Author.Tests.{lt-ltb, le-ltb}
 use Rattle.paper.specs.Machines.{none}
 use Rattle.paper.specs.Cases.{Fact, Case}
-use Rattle.paper.specs.Graphs.{entries}
 use Rattle.paper.specs.Walks.{Walk, KeepsLimits}
-use Rattle.paper.specs.Bounds.{covers, counts, ceil, g, boundOf, factBound}
+use Rattle.paper.specs.Bounds.{covers, counts, ceil, g, boundOf, entered, factBound}
 use Rattle.paper.proofs.Meaning.{SoundFact, Sound}
 use Rattle.theory.proofs.Costs.{paid}
 use Rattle.theory.proofs.Passing.{passing-le-counts}
@@ -86,8 +85,8 @@ module _ (e : Case) (s : Sound e) (w : List ℕ) (walk : Walk e w) (kept : Keeps
       let N = counts e (covers e t) in
       omega (
         arith,
-        ap (λ (p : ℕ). boundOf p (e .ways) (t .limit) (entries e t) N) is,
-        bounded (e .ways) (t .block) (t .limit) (entries e t) N (h .head .block) (h .head .low) (h .head .high) P o
+        ap (λ (p : ℕ). boundOf p (e .ways) (t .limit) (entered e t) N) is,
+        bounded (e .ways) (t .block) (t .limit) (entered e t) N (h .head .block) (h .head .low) (h .head .high) P o
             (paid (covers e t) (misses e (ideal P (e .ways)) w c))
             (law-bound e s w walk kept (ideal P (e .ways)) (fair P (e .ways) o) c fine t h)
             (le-trans (misses-le e (ideal P (e .ways)) (fair P (e .ways) o) (covers e t) w c) (passing-le-counts e (s .graph) (s .nodes) (covers e t) w walk kept)),

@@ -13,7 +13,7 @@ use Rattle.paper.specs.Machines as Machines
 use Rattle.paper.specs.Cases.{Fact, Case, rangeOf, scopeOf}
 use Rattle.paper.specs.Graphs.{entriesOf, entries}
 use Rattle.paper.specs.Walks.{Step, Walk, KeepsLimits}
-use Rattle.paper.specs.Bounds.{covers, counts}
+use Rattle.paper.specs.Bounds.{covers, counts, entered}
 use Rattle.paper.proofs.Says.{Says, holds, fails, says-eq, says-not, says-and}
 use Rattle.paper.proofs.GraphLaws.{inside-says}
 use Rattle.paper.proofs.Meaning.{In, SoundFact, Sound}
@@ -92,6 +92,7 @@ module _ (e : Case) (s : Sound e) (w : List ℕ) (k : Walk e w) (kept : KeepsLim
 
   pub law-bound :
       (M : Machine) → Fair M → (c : Held e M) → Fine e M c → (t : Fact) → SoundFact e t → (r a d : ℕ) → Law M (t .block) (t .limit - 1) r a d
-      → r * paid (covers e t) (misses e M w c) ≤ a * entries e t + d * counts e (covers e t)
+      → r * paid (covers e t) (misses e M w c) ≤ a * entered e t + d * counts e (covers e t)
+  unfolding entered
   law-bound M fair c fine t h r a d L =
       rw (← same-missed e M t (h .head .block) w c) (taken-bound M t h r a d L (states e M t w c) (taken e M t (some-set e s) fair false w c fine))

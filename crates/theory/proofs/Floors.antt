@@ -10,9 +10,8 @@ use borrow.Author.Tests.{leb-true}
 use lib.ListN.{replicate, length-replicate}
 use Rattle.paper.specs.Machines.{none}
 use Rattle.paper.specs.Cases.{Case}
-use Rattle.paper.specs.Graphs.{entries}
 use Rattle.paper.specs.Walks.{Walk, KeepsLimits}
-use Rattle.paper.specs.Bounds.{lives, upTo, M, floorOf, floorAt}
+use Rattle.paper.specs.Bounds.{entered, lives, upTo, M, floorOf, floorAt}
 use Rattle.paper.proofs.Says.{Says, holds, fails}
 use Rattle.paper.proofs.Meaning.{Sound}
 use Rattle.theory.proofs.Count.{sum, one-no}
@@ -77,7 +76,7 @@ module _ (e : Case) (n : ℕ) (fits : n < e .ways) (q : ℕ) (low : q < e .sets)
     lru-M : paid (inSet e q) (misses e L w blank) ≤ M e (suc n) q
     unfolding M
     lru-M =
-        set-sum e sound w walk kept L (lru-fair (suc n)) (upTo e (suc n)) (entries e) q blank λ i l z.
+        set-sum e sound w walk kept L (lru-fair (suc n)) (upTo e (suc n)) (entered e) q blank λ i l z.
         let h = sound .facts i l in
         omega (
           arith,

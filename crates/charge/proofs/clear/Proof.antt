@@ -1,15 +1,17 @@
+-- Each turn writes one 0 more; what follows the list is left.
 use Prim.Native.Nat.{_-_}
 use native.Mathlib.Omega.{arith}
 use mathlib.Core.Path.{refl}
+use Rattle.paper.specs.Bounds.{listLength}
 use Rattle.paper.proofs.Tables.{Written, written-start, written-length, written-more, written-end}
 use Rattle.charge.proofs.clear.Statement.{statement}
 use Rattle.charge.proofs.clear.Tie as tie
 
 abbrev Inv-loop : tie.InvT-loop
-Inv-loop bounds₀ i₀ bounds i = Written (λ j. 0) 321 bounds₀ i bounds
+Inv-loop bounds₀ i₀ bounds i = Written (λ j. 0) listLength bounds₀ i bounds
 
 abbrev μ-loop : tie.MeasureT-loop
-μ-loop bounds₀ i₀ bounds i = 321 - i
+μ-loop bounds₀ i₀ bounds i = listLength - i
 
 pub clear-spec : {M : Type 1} → statement M
 clear-spec =

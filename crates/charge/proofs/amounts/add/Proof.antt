@@ -1,3 +1,4 @@
+-- There is room at both places (`Open`), so that neither sum wraps.
 use native.Mathlib.Omega.{arith}
 use mathlib.Core.Path.{refl}
 use borrow.Author.Needs.{needs}

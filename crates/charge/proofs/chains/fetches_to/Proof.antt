@@ -1,3 +1,4 @@
+-- The code is the test, in the same words.
 use borrow.Author.Needs.{needs}
 use Rattle.charge.proofs.chains.fetches_to.Statement.{statement}
 use Rattle.charge.proofs.chains.fetches_to.Tie as tie

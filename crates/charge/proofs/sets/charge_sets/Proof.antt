@@ -1,3 +1,4 @@
+-- Each set's bound is written and added; the total is the sum.
 use Prim.Native.Nat.{_-_, _<_}
 use native.Mathlib.Omega.{arith}
 use borrow.Author.Needs.{needs}
@@ -5,6 +6,8 @@ use lib.ListN.{length-set}
 use Rattle.paper.specs.Bounds.{setBound}
 use Rattle.paper.specs.Files.{caseOf}
 use Rattle.paper.proofs.Sums.{Added, added-start, added-more}
+use Rattle.formulas.specs.Largest.{largestA}
+use Rattle.charge.specs.Sizes as Sizes
 use Rattle.charge.specs.Tables.{Part}
 use Rattle.charge.proofs.Parts.{part-set, part-total}
 use Rattle.charge.proofs.sets.charge_sets.Statement.{statement}
@@ -12,13 +15,17 @@ use Rattle.charge.proofs.sets.charge_sets.Tie as tie
 
 abbrev Inv-loop : tie.InvT-loop
 Inv-loop file t charged entered fetched spent bounds₀ n total₀ q₀ bounds total q =
-    Part (caseOf file t) 0 q (t .facts) bounds₀ bounds × Added (setBound (caseOf file t)) 1131397464718080 (t .sets) total q
+    Part (caseOf file t) 0 q (t .facts) bounds₀ bounds × Added (setBound (caseOf file t)) largestA (t .sets) total q
 
 abbrev μ-loop : tie.MeasureT-loop
 μ-loop file t charged entered fetched spent bounds₀ n total₀ q₀ bounds total q = n - q
 
-low : (c : tie.In-loop Inv-loop μ-loop) → c .before .loop .q < 64
-low c = omega (arith, c .loop-test .taken, c .before .before .before .before .before .pre .0 .laid .sets-high)
+-- where a turn begins
+abbrev start : tie.In-loop Inv-loop μ-loop → tie.Start Inv-loop μ-loop
+start c = c .before .before .before .before .before
+
+low : (c : tie.In-loop Inv-loop μ-loop) → c .before .loop .q < Sizes.sets
+low c = omega (arith, c .loop-test .taken, start c .pre .0 .laid .sets-high)
 
 loop-again : tie.Need-loop-again Inv-loop μ-loop
 loop-again c =
@@ -38,7 +45,7 @@ charge-sets-spec =
     μ-loop
     (λ c. search needs)
     (λ c. (c .before .before .before .pre .1, added-start _ _ _))
-    (λ c κs. (c .before .before .before .before .before .pre .0, low c))
+    (λ c κs. (start c .pre .0, low c))
     (λ c. omega (arith, low (c .before)))
     (λ c. omega (arith, low (c .before)))
     (λ c. let w = c .before .before .loop .inv .0 in omega (arith, low (c .before), w .all, w .room))

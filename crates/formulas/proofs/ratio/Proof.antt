@@ -1,11 +1,12 @@
+-- Rounded up: l - 2 is one less than the divisor, which is not 0.
 use Prim.Native.Nat.{_-_, _<_}
 use native.Mathlib.Omega.{arith}
 use native.Mathlib.Nat.{le-div-iff-mul-le}
 use mathlib.Core.Path.{_≡_}
 use borrow.Author.Needs.{needs}
 use Rattle.paper.specs.Bounds.{ceil}
-use Rattle.charge.proofs.formulas.ratio.Statement.{statement}
-use Rattle.charge.proofs.formulas.ratio.Tie as tie
+use Rattle.formulas.proofs.ratio.Statement.{statement}
+use Rattle.formulas.proofs.ratio.Tie as tie
 
 returns : tie.Need-returns
 unfolding ceil

@@ -1,11 +1,12 @@
+-- k and M(l) are small, so that their product fits.
 use Prim.Native.Nat.{ℕ, suc, _+_, _-_, _*_, _/_}
 use native.Mathlib.Omega.{arith}
 use native.Mathlib.Nat.{mul-le-mul}
 use mathlib.Core.Path.{_≡_, ap}
 use borrow.Author.Needs.{needs}
 use Rattle.paper.specs.Bounds.{floorOf}
-use Rattle.charge.proofs.formulas.floor_of.Statement.{statement}
-use Rattle.charge.proofs.formulas.floor_of.Tie as tie
+use Rattle.formulas.proofs.floor_of.Statement.{statement}
+use Rattle.formulas.proofs.floor_of.Tie as tie
 
 mul-result : tie.Need-mul-result
 mul-result c = omega (arith, mul-le-mul (c .before .pre .1 .0) (c .before .pre .1 .1))

@@ -1,0 +1,75 @@
+// E: "Entries of a loop: the product over the loops strictly around it", which is the count of the next loop's header out of it, and 1 where there is none.
+ghost use mathlib.Core.Path.{_≡_};
+ghost use mathlib.Core.Logic.{_≢_};
+ghost use Prim.Native.Nat.{_<_, _≤_};
+ghost use Rattle.paper.specs.Files as Files;
+ghost use Rattle.paper.specs.Graphs as Graphs;
+ghost use Rattle.paper.proofs.Meaning.{SoundGraph};
+ghost use Rattle.paper.specs.Known.{Laid};
+ghost use Rattle.paper.specs.Ceilings as Ceilings;
+ghost use Rattle.charge.specs.NextOut as NextOut;
+ghost use Rattle.charge.specs.Ready.{Ready};
+use crate::sizes::LOOPS;
+use paper::Trailer;
+
+// The next loop out of loop j, plus 1; 0 where there is none. Of loops that end before this header, those between one and the next out of it end before it too, and are passed over.
+fn next_out(file: &[u8], t: Trailer, outers: &[u16; LOOPS], j: u16) -> u16
+    requires { ⌜ Laid (now file) t ⌝ }
+    requires { ⌜ SoundGraph (Files.caseOf (now file) t) ⌝ }
+    requires { ⌜ NextOut.Outers (Files.caseOf (now file) t) j (now outers) ⌝ }
+    requires { ⌜ j < t .loops ⌝ }
+    ensures { λ r. ⌜ r ≡ NextOut.nextOut (Files.caseOf (now (file .entry)) t) j ⌝ }
+{
+    let header = layout::loop_at(file, t, j).first;
+    let mut c = j;
+    while 0 < c {
+        let at = c - 1;
+        if header <= layout::loop_at(file, t, at).last {
+            return c;
+        }
+        c = outers[at as usize];
+    }
+    0
+}
+
+// The next loop out of each loop.
+pub fn chain_loops(file: &[u8], t: Trailer, outers: &mut [u16; LOOPS])
+    requires { ⌜ Laid (now file) t ⌝ }
+    requires { ⌜ SoundGraph (Files.caseOf (now file) t) ⌝ }
+    requires { ⌜ NextOut.Outers (Files.caseOf (now file) t) 0 (now outers) ⌝ }
+    ensures { λ r. ⌜ NextOut.Outers (Files.caseOf (now (file .entry)) t) (t .loops) (now (outers .exit)) ⌝ }
+{
+    let n = t.loops;
+    let mut j: u16 = 0;
+    while j < n {
+        outers[j as usize] = next_out(file, t, outers, j);
+        j += 1;
+    }
+}
+
+// E of the fact at p, whose scope is w: "the whole graph with one entry".
+pub fn entries_of(
+    file: &[u8],
+    t: Trailer,
+    counts: &[u32],
+    outers: &[u16; LOOPS],
+    p: usize,
+    w: u16,
+) -> u64
+    requires { ⌜ Ready (now file) t (now counts) ⌝ }
+    requires { ⌜ NextOut.Outers (Files.caseOf (now file) t) (t .loops) (now outers) ⌝ }
+    requires { ⌜ w ≡ Files.factAt (now file) p .scope ⌝ }
+    requires { ⌜ (w ≢ 65535 → w < t .loops) ⌝ }
+    ensures { λ r. ⌜ r ≡ Graphs.entries (Files.caseOf (now (file .entry)) t) (Files.factAt (now (file .entry)) p) ⌝ }
+    ensures { λ r. ⌜ r ≤ Ceilings.mostCount ⌝ }
+{
+    if w == 65535 {
+        return 1;
+    }
+    let c = outers[w as usize];
+    if c == 0 {
+        return 1;
+    }
+    let header = layout::loop_at(file, t, c - 1).first as usize;
+    counts[header] as u64
+}
