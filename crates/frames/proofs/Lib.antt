@@ -1,2 +1,3 @@
 pub mod Filled
-pub mod Laying
+pub mod Bytes
+pub mod Answering

@@ -1,18 +1,25 @@
--- docs/PIPE.md: "All numbers are little-endian." Assumes nothing.
+-- docs/PIPE.md: "All numbers are little-endian."
 use Prim.Native.Nat.{ℕ, zero, suc, _+_, _*_, _/_, _%_}
-use mathlib.Core.List.{List, [], _∷_}
-use lib.ListN.{set}
-use Rattle.paper.specs.Files.{u32At}
+use mathlib.Core.List.{List, [], _∷_, _++_}
+use Rattle.paper.specs.Lists.{table}
+use Rattle.paper.specs.Files.{u16At, u32At}
 
--- A list with the low bytes of x, width of them and the least first, in the places from at on.
-unfoldable pub laid : List ℕ → ℕ → ℕ → ℕ → List ℕ
-laid l at zero x = l
-laid l at (suc width) x = laid (set l at (x % 256)) (suc at) width (x / 256)
+-- The low bytes of x, width of them and the least first.
+unfoldable pub little : ℕ → ℕ → List ℕ
+little zero x = []
+little (suc width) x = x % 256 ∷ little width (x / 256)
 
--- A list with numbers, width bytes each, one after another from at on.
-unfoldable pub laidAll : ℕ → List ℕ → ℕ → List ℕ → List ℕ
-laidAll width l at [] = l
-laidAll width l at (x ∷ xs) = laidAll width (laid l at width x) (at + width) xs
+-- Numbers, width bytes each, one after another.
+unfoldable pub littles : ℕ → List ℕ → List ℕ
+littles width [] = []
+littles width (x ∷ xs) = little width x ++ littles width xs
 
 abbrev pub u64At : List ℕ → ℕ → ℕ
 u64At l p = u32At l p + 4294967296 * u32At l (p + 4)
+
+-- The first n numbers that stand in the bytes, each u16, and each u64.
+abbrev pub u16s : List ℕ → ℕ → List ℕ
+u16s l n = table (λ i. u16At l (2 * i)) n
+
+abbrev pub u64s : List ℕ → ℕ → List ℕ
+u64s l n = table (λ i. u64At l (8 * i)) n

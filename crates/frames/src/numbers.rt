@@ -2,29 +2,33 @@
 ghost use mathlib.Core.Path.{_≡_};
 ghost use Prim.Native.Nat.{_+_, _*_, _≤_};
 ghost use lib.ListN.{length};
-ghost use Rattle.paper.specs.Files.{u16At};
-ghost use Rattle.paper.specs.Lists.{table};
-ghost use Rattle.frames.specs.Little.{laid, laidAll, u64At};
+ghost use Rattle.print.specs.Put.{Put};
+ghost use Rattle.frames.specs.Little.{little, littles, u64At, u16s, u64s};
 
-// Puts the low bytes of a number, width of them, at a place.
-pub fn put(out: &mut [u8], at: usize, width: usize, x: u64)
+// Puts the low bytes of a number, width of them, at a place, and answers the place after them.
+pub fn put(out: &mut [u8], at: usize, width: usize, x: u64) -> usize
     requires { ⌜ at + width ≤ length (now out) ⌝ }
-    ensures { λ _. ⌜ now (out .exit) ≡ laid (now (out .entry)) at width x ⌝ }
+    ensures { λ r. ⌜ Put (now (out .entry)) at (little width x) r (now (out .exit)) ⌝ }
+    ensures { λ r. ⌜ r ≡ at + width ⌝ }
 {
+    let mut to = at;
     let mut rest = x;
-    let mut i = 0;
-    while i < width {
-        out[at + i] = (rest % 256) as u8;
+    let mut left = width;
+    while left > 0 {
+        out[to] = (rest % 256) as u8;
         rest /= 256;
-        i += 1;
+        to += 1;
+        left -= 1;
     }
+    to
 }
 
-fn put_u16(out: &mut [u8], at: usize, x: u16)
+fn put_u16(out: &mut [u8], at: usize, x: u16) -> usize
     requires { ⌜ at + 2 ≤ length (now out) ⌝ }
-    ensures { λ _. ⌜ now (out .exit) ≡ laid (now (out .entry)) at 2 x ⌝ }
+    ensures { λ r. ⌜ Put (now (out .entry)) at (little 2 x) r (now (out .exit)) ⌝ }
+    ensures { λ r. ⌜ r ≡ at + 2 ⌝ }
 {
-    put(out, at, 2, x as u64);
+    put(out, at, 2, x as u64)
 }
 
 pub fn u64_at(bytes: &[u8], p: usize) -> u64
@@ -39,7 +43,7 @@ pub fn u64_at(bytes: &[u8], p: usize) -> u64
 // Fills a list of blocks from the bytes.
 pub fn read_blocks(bytes: &[u8], blocks: &mut [u16])
     requires { ⌜ 2 * length (now blocks) ≤ length (now bytes) ⌝ }
-    ensures { λ _. ⌜ now (blocks .exit) ≡ table (λ i. u16At (now (bytes .entry)) (2 * i)) (length (now (blocks .entry))) ⌝ }
+    ensures { λ _. ⌜ now (blocks .exit) ≡ u16s (now (bytes .entry)) (length (now (blocks .entry))) ⌝ }
 {
     let mut i = 0;
     while i < blocks.len() {
@@ -51,7 +55,7 @@ pub fn read_blocks(bytes: &[u8], blocks: &mut [u16])
 // Fills a list of numbers from the bytes.
 pub fn read_numbers(bytes: &[u8], numbers: &mut [u64])
     requires { ⌜ 8 * length (now numbers) ≤ length (now bytes) ⌝ }
-    ensures { λ _. ⌜ now (numbers .exit) ≡ table (λ i. u64At (now (bytes .entry)) (8 * i)) (length (now (numbers .entry))) ⌝ }
+    ensures { λ _. ⌜ now (numbers .exit) ≡ u64s (now (bytes .entry)) (length (now (numbers .entry))) ⌝ }
 {
     let mut i = 0;
     while i < numbers.len() {
@@ -60,26 +64,32 @@ pub fn read_numbers(bytes: &[u8], numbers: &mut [u64])
     }
 }
 
-// Puts a list of blocks into the bytes.
-pub fn put_blocks(bytes: &mut [u8], blocks: &[u16])
-    requires { ⌜ 2 * length (now blocks) ≤ length (now bytes) ⌝ }
-    ensures { λ _. ⌜ now (bytes .exit) ≡ laidAll 2 (now (bytes .entry)) 0 (now (blocks .entry)) ⌝ }
+// Puts a list of blocks at a place, and answers the place after them.
+pub fn put_blocks(out: &mut [u8], at: usize, blocks: &[u16]) -> usize
+    requires { ⌜ at + 2 * length (now blocks) ≤ length (now out) ⌝ }
+    ensures { λ r. ⌜ Put (now (out .entry)) at (littles 2 (now (blocks .entry))) r (now (out .exit)) ⌝ }
+    ensures { λ r. ⌜ r ≡ at + 2 * length (now (blocks .entry)) ⌝ }
 {
+    let mut to = at;
     let mut i = 0;
     while i < blocks.len() {
-        put_u16(bytes, 2 * i, blocks[i]);
+        to = put_u16(out, to, blocks[i]);
         i += 1;
     }
+    to
 }
 
-// Puts a list of numbers into the bytes.
-pub fn put_numbers(bytes: &mut [u8], numbers: &[u64])
-    requires { ⌜ 8 * length (now numbers) ≤ length (now bytes) ⌝ }
-    ensures { λ _. ⌜ now (bytes .exit) ≡ laidAll 8 (now (bytes .entry)) 0 (now (numbers .entry)) ⌝ }
+// Puts a list of numbers at a place, and answers the place after them.
+pub fn put_numbers(out: &mut [u8], at: usize, numbers: &[u64]) -> usize
+    requires { ⌜ at + 8 * length (now numbers) ≤ length (now out) ⌝ }
+    ensures { λ r. ⌜ Put (now (out .entry)) at (littles 8 (now (numbers .entry))) r (now (out .exit)) ⌝ }
+    ensures { λ r. ⌜ r ≡ at + 8 * length (now (numbers .entry)) ⌝ }
 {
+    let mut to = at;
     let mut i = 0;
     while i < numbers.len() {
-        put(bytes, 8 * i, 8, numbers[i]);
+        to = put(out, to, 8, numbers[i]);
         i += 1;
     }
+    to
 }

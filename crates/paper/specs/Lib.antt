@@ -20,4 +20,5 @@ pub mod Listings
 pub mod Demands
 pub mod Checked
 pub mod NextBits
+pub mod Patterns
 pub mod Ready

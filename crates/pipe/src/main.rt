@@ -1,61 +1,63 @@
-// Every public operation over standard input and output: docs/PIPE.md has the framing.
-mod addresses;
-mod checks;
-mod room;
-mod sets;
-mod steps;
-mod traces;
+// Every public operation over standard input and output: docs/PIPE.md has the framing. What is answered is made by `answers`; here is what is read, what is written, and in which order.
+mod requests;
 
-use frames::Frame;
-use room::ACCESSES;
-use room::NUMBERS;
-use room::ROOM;
+use answers::ACCESSES;
+use answers::NUMBERS;
+use answers::ROOM;
+use libc::STDOUT_FILENO;
+use requests::Frame;
 ghost use Prim.Native.Nat.{_≤_};
 ghost use lib.ListN.{length};
-ghost use Rattle.pipe.specs.Room as Room;
+ghost use Rattle.frames.specs.Room as Room;
 
-// How many bytes the arguments of an operation take, the lent memory left out. A step's take most.
-fn arguments(operation: u8) -> usize
-    ensures { λ r. ⌜ r ≤ 21 ⌝ }
+// The operation that the first byte names.
+fn asked(
+    operation: u8,
+    request: &[u8; 21],
+    bytes: &mut [u8],
+    blocks: &mut [u16],
+    numbers: &mut [u64],
+) -> Frame
+    requires { ⌜ Room.bytes ≤ length (now bytes) ⌝ }
+    requires { ⌜ Room.accesses ≤ length (now blocks) ⌝ }
+    requires { ⌜ Room.numbers ≤ length (now numbers) ⌝ }
 {
     match operation {
-        1 => 21,
-        2 => 8,
-        3 => 3,
-        4 => 11,
-        5 => 8,
-        _ => 0,
+        1 | 2 | 3 => requests::short(operation, request, &mut bytes[0..28]),
+        4 => requests::trace(request, bytes, blocks),
+        5 => requests::check(request, bytes, numbers),
+        _ => Frame::Stopped(1),
     }
 }
 
 // Reads one request and answers it.
 fn next(bytes: &mut [u8], blocks: &mut [u16], numbers: &mut [u64]) -> Frame
-    requires { ⌜ Room.room ≤ length (now bytes) ⌝ }
+    requires { ⌜ Room.bytes ≤ length (now bytes) ⌝ }
     requires { ⌜ Room.accesses ≤ length (now blocks) ⌝ }
     requires { ⌜ Room.numbers ≤ length (now numbers) ⌝ }
 {
     let mut operation = [0u8; 1];
-    if !frames::read(&mut operation) {
+    if !requests::read(&mut operation) {
         return Frame::Over;
     }
     let mut request = [0u8; 21];
-    let n = arguments(operation[0]);
-    if !frames::read(&mut request[0..n]) {
+    let n = answers::argument_bytes(operation[0]);
+    if !requests::read(&mut request[0..n]) {
         return Frame::Stopped(2);
     }
-    match operation[0] {
-        1 => steps::answer(&request),
-        2 => addresses::answer(&request),
-        3 => sets::answer(&request),
-        4 => traces::answer(&request, bytes, blocks),
-        5 => checks::answer(&request, bytes, numbers),
-        _ => Frame::Stopped(1),
-    }
+    asked(operation[0], &request, bytes, blocks, numbers)
+}
+
+// The last answer of all.
+fn stop(why: u8, answered: u64) {
+    let mut out = [0u8; 10];
+    frames::last(&mut out, why, answered);
+    io::write_all(STDOUT_FILENO, &out);
 }
 
 // Answers one request after another, until there is none or one that cannot be answered.
 fn converse(bytes: &mut [u8], blocks: &mut [u16], numbers: &mut [u64])
-    requires { ⌜ Room.room ≤ length (now bytes) ⌝ }
+    requires { ⌜ Room.bytes ≤ length (now bytes) ⌝ }
     requires { ⌜ Room.accesses ≤ length (now blocks) ⌝ }
     requires { ⌜ Room.numbers ≤ length (now numbers) ⌝ }
 {
@@ -66,7 +68,7 @@ fn converse(bytes: &mut [u8], blocks: &mut [u16], numbers: &mut [u64])
                 answered += 1;
             }
             Frame::Stopped(why) => {
-                frames::last(why, answered);
+                stop(why, answered);
                 return;
             }
             Frame::Over => {
@@ -76,7 +78,7 @@ fn converse(bytes: &mut [u8], blocks: &mut [u16], numbers: &mut [u64])
     }
 }
 
-// The room is lent on as lists: for a request's lent memory and the head of its answer, for a trace's blocks, and for a check's numbers.
+// The room is lent on as lists: for a request's lent memory and what stands before it in the answer, for a trace's blocks, and for a check's numbers.
 fn with_room(bytes: &mut [u8; ROOM], blocks: &mut [u16; ACCESSES], numbers: &mut [u64; NUMBERS]) {
     converse(bytes, blocks, numbers);
 }

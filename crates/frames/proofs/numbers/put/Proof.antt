@@ -1,42 +1,30 @@
--- `frames::numbers::put` lays a number's bytes down: what is left to lay, from the next place on, gives the whole. Assumes nothing.
-use Prim.Native.Nat.{ℕ, suc, _+_, _-_, _/_, _%_, _≤_, _<_}
-use mathlib.Core.Path.{_≡_, _∙_, sym}
-use mathlib.Core.List.{List}
-use native.Mathlib.Nat.{add-zero, sub-zero}
-use native.Mathlib.Omega.{arith}
+-- `frames::numbers::put` puts a number's bytes one after another: those of what is left of it are left.
+use Prim.Native.Nat.{_+_}
+use mathlib.Core.Path.{_≡_, refl}
 use borrow.Author.Needs.{needs}
-use lib.ListN.{length, set, length-set}
-use Rattle.frames.specs.Little.{laid}
+use lib.ListN.{length, length-set}
+use Rattle.print.proofs.Putting.{Left, left-start, left-more, left-end, put-one}
+use Rattle.frames.specs.Little.{little}
+use Rattle.frames.proofs.Bytes.{next-byte, no-byte}
 use Rattle.frames.proofs.numbers.put.Statement.{statement}
 use Rattle.frames.proofs.numbers.put.Tie as tie
 
-laid-more : (l : List ℕ) (at width i x : ℕ) → i < width → laid l (at + i) (width - i) x ≡ laid (set l (at + i) (x % 256)) (at + (i + 1)) (width - (i + 1)) (x / 256)
-unfolding laid
-laid-more l at width i x h =
-    let e : width - i ≡ suc (width - (i + 1)) = omega arith in
-    let p : at + (i + 1) ≡ suc (at + i) = omega arith in
-    rw (e, p)
-
-laid-end : (l : List ℕ) (at width i x : ℕ) → width ≤ i → laid l (at + i) (width - i) x ≡ l
-unfolding laid
-laid-end l at width i x h =
-    let e : width - i ≡ 0 = omega arith in
-    rw e
-
 abbrev Inv-loop : tie.InvT-loop
-Inv-loop out₀ at width x rest₀ i₀ out rest i = (length out ≡ length out₀) × (i ≤ width) × (laid out₀ at width x ≡ laid out (at + i) (width - i) rest)
+Inv-loop out₀ at width x to₀ rest₀ left₀ out to rest left =
+    (Left out₀ at (little width x) out to (little left rest)) × (to + left ≡ at + width) × (length out ≡ length out₀)
 
 abbrev μ-loop : tie.MeasureT-loop
-μ-loop out₀ at width x rest₀ i₀ out rest i = width - i
+μ-loop out₀ at width x to₀ rest₀ left₀ out to rest left = left
 
 loop-holds : tie.Need-loop-holds Inv-loop μ-loop
-loop-holds c = (search needs, search needs, rw (add-zero, sub-zero))
+loop-holds c = (left-start, refl, refl)
 
 loop-again : tie.Need-loop-again Inv-loop μ-loop
-loop-again c = (simp length-set (search needs), search needs, c .before .loop .inv .2 ∙ laid-more _ _ _ _ _ (c .loop-test .taken))
+loop-again c =
+    (left-more put-one (next-byte _ _ (c .before .loop .inv .0) (c .loop-test .taken)), search needs, simp length-set (search needs))
 
 returns : tie.Need-returns Inv-loop μ-loop
-returns c = sym (c .before .loop .inv .2 ∙ laid-end _ _ _ _ _ (search needs))
+returns c = (left-end (no-byte _ _ (c .before .loop .inv .0) (c .loop-test .left)), search needs)
 
 pub put-spec : {M : Type 1} → statement M
 put-spec =

@@ -1,0 +1,35 @@
+-- `answers::argument_bytes`, operation by operation.
+use native.Mathlib.Omega.{arith}
+use borrow.Author.Tests.{ne-eqb}
+use Rattle.frames.specs.Frames.{argumentBytes}
+use Rattle.answers.proofs.argument_bytes.Statement.{statement}
+use Rattle.answers.proofs.argument_bytes.Tie as tie
+
+returns : tie.Need-returns
+unfolding argumentBytes
+returns c = (rw (c .match .keys1), omega arith)
+
+returns-2 : tie.Need-returns-2
+unfolding argumentBytes
+returns-2 c = (rw (c .match .keys2), omega arith)
+
+returns-3 : tie.Need-returns-3
+unfolding argumentBytes
+returns-3 c = (rw (c .match .keys3), omega arith)
+
+returns-4 : tie.Need-returns-4
+unfolding argumentBytes
+returns-4 c = (rw (c .match .keys4), omega arith)
+
+returns-5 : tie.Need-returns-5
+unfolding argumentBytes
+returns-5 c = (rw (c .match .keys5), omega arith)
+
+returns-6 : tie.Need-returns-6
+unfolding argumentBytes
+returns-6 c =
+    let r = c .match .rest in
+    (rw (ne-eqb _ 1 (r .0 .0 .0 .0 .1), ne-eqb _ 2 (r .0 .0 .0 .1), ne-eqb _ 3 (r .0 .0 .1), ne-eqb _ 4 (r .0 .1), ne-eqb _ 5 (r .1)), omega arith)
+
+pub argument-bytes-spec : {M : Type 1} → statement M
+argument-bytes-spec = tie.close (tie.spec returns returns-2 returns-3 returns-4 returns-5 returns-6)

@@ -1,0 +1,19 @@
+-- `answers::traces::traced` asks by the arguments in their order, on the blocks and the marks that are lent.
+use Prim.Native.Nat.{_+_, _*_}
+use mathlib.Core.Path.{_∙_}
+use borrow.Author.Needs.{needs}
+use lib.ListN.{length}
+use Rattle.answers.proofs.Asking.{trace-asked, tail-left}
+use Rattle.answers.proofs.traces.traced.Statement.{statement}
+use Rattle.answers.proofs.traces.traced.Tie as tie
+
+returns : tie.Need-returns
+returns c =
+    let t = c .before .before in
+    let b = t .before .before .before .before .before .before .before .before in
+    let s = b .before .before .before .before .before .before in
+    let a = trace-asked (s .args .request .now) (s .args .bytes .now) (s .pre .0) (b .read-blocks .ensures) (t .trace-run .ensures) in
+    (a .0, tail-left (s .args .bytes .now) _ (28 + 2 * length (s .args .blocks .now)) (search needs) ∙ a .1)
+
+pub traced-spec : {M : Type 1} → statement M
+traced-spec = tie.close (tie.spec (λ c. search needs) (λ c. search needs) (λ c. search needs) (λ c. search needs) (λ c. search needs) (λ c κs. search needs) (λ c. search needs) (λ c. search needs) (λ c. search needs) (λ c. search needs) (λ c. search needs) (λ c. search needs) (λ c κs. search needs) (λ c. search needs) (λ c. search needs) returns)

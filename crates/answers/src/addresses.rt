@@ -1,0 +1,32 @@
+// Operation 2, the block of an address.
+use frames::Head;
+use paper::Address;
+use paper::BlockAnswer;
+ghost use mathlib.Core.Path.{_≡_};
+ghost use lib.ListN.{length};
+ghost use Rattle.frames.specs.Frames as Frames;
+
+fn head_of(answer: BlockAnswer) -> Head
+    ensures { λ r. ⌜ r ≡ Frames.blockHead answer ⌝ }
+{
+    match answer {
+        BlockAnswer::Found(b) => frames::found(b.0 as u64),
+        BlockAnswer::Refused(r) => frames::refused(r, 0),
+    }
+}
+
+// The arguments: address, line size.
+fn asked(request: &[u8; 21]) -> BlockAnswer
+    ensures { λ r. ⌜ r ≡ Frames.blockAsked (now (request .entry)) ⌝ }
+{
+    let address = Address(layout::u32_at(request, 0));
+    bolgverk::block_of(address, layout::u32_at(request, 4))
+}
+
+pub fn answer(request: &[u8; 21], out: &mut [u8]) -> usize
+    requires { ⌜ length (now out) ≡ 28 ⌝ }
+    ensures { λ r. ⌜ Frames.Answered (Frames.blockFrame (Frames.blockAsked (now (request .entry)))) r (now (out .exit)) ⌝ }
+{
+    frames::front(out, 16, 2, 2, head_of(asked(request)));
+    16
+}

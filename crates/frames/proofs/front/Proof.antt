@@ -1,0 +1,31 @@
+-- `frames::front` is its parts, one after another.
+use borrow.Author.Needs.{needs}
+use Rattle.print.proofs.Putting.{put-then}
+use Rattle.frames.specs.Frames.{head, front}
+use Rattle.frames.proofs.front.Statement.{statement}
+use Rattle.frames.proofs.front.Tie as tie
+
+returns : tie.Need-returns
+unfolding head front
+returns c =
+    let value = c .before .before in
+    let place = value .before .before .before .before in
+    let number = place .before .before .before .before in
+    let operation = number .before .before .before .before .before .before in (
+      put-then
+          (put-then (operation .put .ensures .0) (put-then (number .put2 .ensures .0) (place .put3 .ensures .0)))
+          (value .put4 .ensures .0),
+      search needs,
+    )
+
+pub front-spec : {M : Type 1} → statement M
+front-spec =
+    tie.close
+    (tie.spec
+    (λ c κs. search needs)
+    (λ c. search needs)
+    (λ c κs. search needs)
+    (λ c κs. search needs)
+    (λ c κs. search needs)
+    (λ c. search needs)
+    returns)

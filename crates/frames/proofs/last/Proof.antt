@@ -1,0 +1,18 @@
+-- `frames::last` is its parts, one after another, and they fill the ten bytes.
+use borrow.Author.Needs.{needs}
+use Rattle.print.proofs.Putting.{put-then}
+use Rattle.frames.specs.Frames.{lastFrame}
+use Rattle.frames.proofs.Answering.{put-all}
+use Rattle.frames.proofs.last.Statement.{statement}
+use Rattle.frames.proofs.last.Tie as tie
+
+returns : tie.Need-returns
+unfolding lastFrame
+returns c =
+    let answered = c .before .before in
+    let why = answered .before .before .before .before in
+    let zero = why .before .before .before .before in
+    put-all (search needs) (put-then (zero .put .ensures .0) (put-then (why .put2 .ensures .0) (answered .put3 .ensures .0)))
+
+pub last-spec : {M : Type 1} → statement M
+last-spec = tie.close (tie.spec (λ c κs. search needs) (λ c κs. search needs) (λ c κs. search needs) (λ c. search needs) returns)
