@@ -1,14 +1,12 @@
 -- What a turn tells, by its answer.
-use Prim.Native.Nat.{ℕ, _+_, _-_, _≤_}
+use Prim.Native.Nat.{ℕ, _-_}
 use native.Mathlib.Omega.{arith}
 use mathlib.Core.Path.{_≡_, _∙_, subst}
 use mathlib.Core.List.{List}
-use lib.Dec.{ltb}
 use Rattle.paper.specs.declared.Refusal.{Refusal}
 use Rattle.paper.specs.declared.Trailer.{Trailer}
 use Rattle.paper.specs.declared.Verdict.{Verdict}
 use Rattle.paper.specs.declared.Verdict.the-variants as Verdicts
-use Rattle.paper.proofs.Says.{says-lt, says-same}
 use Rattle.evidence.specs.declared.Kept.{Kept}
 use Rattle.evidence.specs.declared.Turn.{Turn}
 use Rattle.evidence.specs.declared.Turn.the-variants as Turns
@@ -24,7 +22,3 @@ module _ (f : List ℕ) (t : Trailer) (p : ℕ) (chain : Verdict → Verdict) wh
   -- a chain that goes on where the other begins
   pub told-on : (other : Verdict → Verdict) (r : Turn) → other Verdicts.Accepted ≡ chain Verdicts.Accepted → Told f t p other r → Told f t p chain r
   told-on other r e w = record { verdict = w .verdict ∙ e; next = w .next }
-
--- the bytes that are left from p on, where p lies before the trailer at z
-pub left-below : (z p n : ℕ) → p ≤ z → ltb (z - p) n ≡ ltb z (p + n)
-left-below z p n h = says-same (λ l. omega arith) (λ l. omega arith) (says-lt (z - p) n) (says-lt z (p + n))

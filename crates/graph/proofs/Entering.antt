@@ -61,9 +61,9 @@ module _ (e : Case) (w : Shaped e) (i : ℕ) where
       (return-says e i)
 
   -- only rules 9 and 10 have marks of their own
-  as-8 : (rule : ℕ) → rule < 10 → rule ≢ 9 → (j : ℕ) → marks e rule j ≡ marks e 8 j
+  as-entry : (rule : ℕ) → rule < 10 → rule ≢ 9 → (j : ℕ) → marks e rule j ≡ marks e 8 j
   unfolding marks loopMark
-  as-8 rule h n j =
+  as-entry rule h n j =
       let m : rule ≢ 10 = omega arith in
       rw (ne-eqb rule 10 m, ne-eqb rule 9 n) refl
 
@@ -72,7 +72,7 @@ module _ (e : Case) (w : Shaped e) (i : ℕ) where
   edge-test rule h =
       elim (ℕ-discrete rule 9) [
         | yes p ↦ rw p return-test
-        | no n ↦ rw (ne-eqb rule 9 n, marked-same (marks e rule) (marks e 8) 0 (e .to i) (as-8 rule h n) (e .loops)) entry-test
+        | no n ↦ rw (ne-eqb rule 9 n, marked-same (marks e rule) (marks e 8) 0 (e .to i) (as-entry rule h n) (e .loops)) entry-test
       ]
 
   -- edge i, from u to v, by the table

@@ -20,10 +20,6 @@ pub past : (number place : ℕ) (broken : Bool) (rest : Verdict) → rule number
 past number place true rest h = never _ h
 past number place false rest h = (refl, h)
 
--- a rule that is known to be kept
-pub follows : (number place : ℕ) (broken : Bool) (rest v : Verdict) → broken ≡ false → v ≡ rest → v ≡ rule number place broken rest
-follows number place broken rest v h s = rw h s
-
 -- a rule by the outcome b of its test: where it is kept the verdict is that of the rest, where it is broken the file is refused
 module _ (number place : ℕ) (broken : Bool) (rest : Verdict) (b : Bool) (e : b ≡ broken) where
   pub passes : (v : Verdict) → b ≡ false → v ≡ rest → v ≡ rule number place broken rest

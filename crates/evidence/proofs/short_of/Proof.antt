@@ -1,9 +1,16 @@
 -- `short_of`: what is left before the trailer is compared, so that no sum can be too large.
+use Prim.Native.Nat.{ℕ, _+_, _-_, _≤_}
 use native.Mathlib.Omega.{arith}
+use mathlib.Core.Path.{_≡_}
 use borrow.Author.Needs.{needs}
+use lib.Dec.{ltb}
+use Rattle.paper.proofs.Says.{says-lt, says-same}
 use Rattle.evidence.proofs.short_of.Statement.{statement}
 use Rattle.evidence.proofs.short_of.Tie as tie
-use Rattle.evidence.proofs.Told.{left-below}
+
+-- the bytes that are left from p on, where p lies before the trailer at z
+left-below : (z p n : ℕ) → p ≤ z → ltb (z - p) n ≡ ltb z (p + n)
+left-below z p n h = says-same (λ l. omega arith) (λ l. omega arith) (says-lt (z - p) n) (says-lt z (p + n))
 
 returns : tie.Need-returns
 returns c = rw (c .end-of .ensures) (left-below _ _ _ (c .before .before .pre .1))
