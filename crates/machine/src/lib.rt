@@ -28,10 +28,11 @@ fn take_step(policy: u8, k: usize, state: SetState, block: Block) -> Stepped
     ensures { λ r. ⌜ r ≡ Machines.step policy k state (block .0) ⌝ }
 {
     if policy == 0 {
-        return state.lru(k, block);
+        let shift = state.shift(k, block, paper::shift_of(k));
+        return state.lru(k, block, shift);
     }
     if policy == 1 {
-        return state.fifo(k, block);
+        return state.fifo(k, block, paper::kept_from(k));
     }
     let next = next_bits();
     state.nmru(k, block, &next)

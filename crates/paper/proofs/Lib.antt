@@ -15,7 +15,6 @@ pub mod FileLaws
 pub mod TestLaws
 pub mod Numbers
 pub mod Lines
-pub mod Carries
 pub mod Masks
 pub mod Moves
 pub mod StepLaws
@@ -25,3 +24,4 @@ pub mod SameGraphs
 pub mod SameFacts
 pub mod AnswerLaws
 pub mod RefusalLaws
+pub mod Homes

@@ -1,30 +1,42 @@
--- Laws of a set's lines: the search for a block, the shift of the lines, and what a shift of all of them is where the lines from k on are empty. Assumes nothing.
+-- Laws of a set's eight lines by value: the sum that tells a block's line, and what a shift of the lines that are not kept is.
 use Prim.Native.Nat.{ℕ, zero, suc, _+_, _-_, _<_, _≤_, min}
 use native.Mathlib.Nat.{not-suc-le-zero, le-of-suc-le-suc}
 use native.Mathlib.Decide.{ℕ-discrete, decLt}
 use native.Mathlib.Omega.{arith}
-use native.Mathlib.Numerals.{unary-clauses}
 use mathlib.Core.Path.{_≡_, refl, sym, ap, _∙_}
-use mathlib.Core.Bool.{Bool, true, false, cond, true≢false}
-use mathlib.Core.List.{List, [], _∷_, _++_}
-use lib.Dec.{eqb}
-use lib.ListN.{length, getD, take, drop, set, drop-of-length-le, length-append, length-take, length-drop}
-use lib.Seq.{drop-cons, set-out}
-use borrow.Author.Tests.{eq-eqb, ne-eqb, lt-ltb, le-ltb, eqb-true}
-use Rattle.paper.specs.Machines.{none, lineOf, hits, pushed, oneDown, empty}
+use mathlib.Core.Logic.{_≢_}
+use mathlib.Core.Bool.{Bool, true, false, cond}
+use mathlib.Core.List.{List, [], _∷_}
+use lib.Dec.{eqb, ltb}
+use lib.ListN.{length, getD, take, drop, set, length-set, length-append, length-take, length-drop}
+use lib.Seq.{getD-set-same, getD-set-other}
+use borrow.Author.Tests.{eq-eqb, ne-eqb, lt-ltb, le-ltb}
+use Rattle.paper.specs.Lists.{table}
+use Rattle.paper.specs.Machines.{none, lineOf, hits, pushed}
+use Rattle.paper.specs.Shifts.{keptFrom, weighed, keptAfter, movedBy}
+use Rattle.paper.proofs.States.{Distinct, line-at}
+use Rattle.paper.proofs.Tables.{getD-table, length-table, same-table, table-is}
 
--- a search is at line i
-pub line-here : (l : List ℕ) (i b : ℕ) → i < length l → getD l i 0 ≡ b → lineOf (drop i l) b ≡ 0
-unfolding lineOf
-line-here l i b h e = rw (drop-cons l i 0 h, eq-eqb _ _ e)
+-- eight values by their rule
+pub eight : (g : ℕ → ℕ) {x₀ x₁ x₂ x₃ x₄ x₅ x₆ x₇ : ℕ} → x₀ ≡ g 0 → x₁ ≡ g 1 → x₂ ≡ g 2 → x₃ ≡ g 3 → x₄ ≡ g 4 → x₅ ≡ g 5 → x₆ ≡ g 6 → x₇ ≡ g 7 → x₀ ∷ x₁ ∷ x₂ ∷ x₃ ∷ x₄ ∷ x₅ ∷ x₆ ∷ x₇ ∷ [] ≡ table g 8
+unfolding table
+eight g e₀ e₁ e₂ e₃ e₄ e₅ e₆ e₇ = rw (e₀, e₁, e₂, e₃, e₄, e₅, e₆, e₇)
 
-pub line-on : (l : List ℕ) (i b : ℕ) → i < length l → (getD l i 0 ≡ b → ⊥) → lineOf (drop i l) b ≡ suc (lineOf (drop (suc i) l) b)
-unfolding lineOf
-line-on l i b h e = rw (drop-cons l i 0 h, ne-eqb _ _ e)
+pub eight-weighed : (l : List ℕ) (b : ℕ) {x₀ x₁ x₂ x₃ x₄ x₅ x₆ x₇ : ℕ} → length l ≡ 8 → let g : ℕ → ℕ = λ i. cond (eqb (getD l i 0) b) (15 - i) 0 in x₀ ≡ g 0 → x₁ ≡ g 1 → x₂ ≡ g 2 → x₃ ≡ g 3 → x₄ ≡ g 4 → x₅ ≡ g 5 → x₆ ≡ g 6 → x₇ ≡ g 7 → x₀ + (x₁ + (x₂ + (x₃ + (x₄ + (x₅ + (x₆ + x₇)))))) ≡ weighed 15 l b
+unfolding table weighed
+eight-weighed l b e e₀ e₁ e₂ e₃ e₄ e₅ e₆ e₇ =
+    let f : weighed 15 (table (λ i. getD l i 0) 8) b ≡ weighed 15 l b = ap (λ (m : List ℕ). weighed 15 m b) (table-is (λ i. getD l i 0) 8 l e (λ i h. refl)) in
+    omega arith
 
-pub line-end : (l : List ℕ) (i b : ℕ) → length l ≤ i → lineOf (drop i l) b ≡ 0
-unfolding lineOf
-line-end l i b h = rw (drop-of-length-le l {i = i} h)
+-- a line is replaced
+pub table-set : (l : List ℕ) (j b : ℕ) → length l ≡ 8 → table (λ i. cond (eqb j i) b (getD l i 0)) 8 ≡ set l j b
+table-set l j b e =
+    table-is _ 8 (set l j b) (length-set l j b ∙ e)
+    (λ i h.
+    elim (ℕ-discrete j i) [
+      | yes p ↦ rw (eq-eqb j i p, p) (sym (getD-set-same l i b 0 (omega arith)))
+      | no n ↦ rw (ne-eqb j i n) (sym (getD-set-other l j i b 0 (λ q. n (sym q))))
+    ])
 
 -- of the first k lines, the search through all of them finds the same
 line-take : (k : ℕ) (l : List ℕ) (b : ℕ) → k ≤ length l → lineOf (take k l) b ≡ min k (lineOf l b)
@@ -47,72 +59,118 @@ module _ (k : ℕ) (l : List ℕ) (b j : ℕ) (fits : k ≤ length l) (e : j ≡
   unfolding hits
   hit-no h = le-ltb _ k (omega (arith, line-take k l b fits))
 
--- the lines without line j
-without : ℕ → List ℕ → List ℕ
-without j l = take j l ++ drop (suc j) l
+-- "no block stands in two lines", so the sum over the lines that hold b has one summand at most
+rest-distinct : (x : ℕ) (l : List ℕ) → Distinct (x ∷ l) → Distinct l
+rest-distinct x l a i j g e = a (suc i) (suc j) (omega arith) e
 
-one-more : (l : List ℕ) (i : ℕ) → suc i < length l → without i (set l (suc i) (getD l i 0)) ≡ without (suc i) l
-unfolding without
-one-more [] i h = absurd (not-suc-le-zero h)
-one-more (x ∷ []) i h = absurd (not-suc-le-zero (le-of-suc-le-suc h))
-one-more (x ∷ y ∷ l) zero h = refl
-one-more (x ∷ y ∷ l) (suc i) h = ap {B = List ℕ} (λ m. x ∷ m) (one-more (y ∷ l) i (le-of-suc-le-suc h))
+once : (x b : ℕ) (l : List ℕ) → Distinct (x ∷ l) → b ≢ none → x ≡ b → length l ≤ lineOf l b
+once x b l a n e =
+    elim (decLt (lineOf l b) (length l)) [
+      | yes y ↦ absurd (n (sym e ∙ a 0 (suc (lineOf l b)) (omega arith) (e ∙ sym (line-at l b none y))))
+      | no y ↦ omega arith
+    ]
 
--- line i-1 is copied to line i: what is left to be shifted is one line less
-pub push-more : (l : List ℕ) (i b : ℕ) → 0 < i → i < length l → pushed (i - 1) (set l i (getD l (i - 1) 0)) b ≡ pushed i l b
-unfolding pushed without
-push-more l zero b p h = absurd (omega arith)
-push-more l (suc i) b p h = simp unary-clauses (ap {B = List ℕ} (λ m. b ∷ m) (one-more l i h))
+pub weighed-none : (w : ℕ) (l : List ℕ) (b : ℕ) → length l ≤ lineOf l b → weighed w l b ≡ 0
+unfolding weighed lineOf
+weighed-none w [] b h = refl
+weighed-none w (x ∷ l) b h =
+    elim (ℕ-discrete x b) [
+      | yes e ↦ absurd (omega (arith, rw (eq-eqb x b e) at h))
+      | no n ↦ rw (ne-eqb x b n) (omega (arith, weighed-none (w - 1) l b (omega (arith, rw (ne-eqb x b n) at h))))
+    ]
 
-pub push-end : (l : List ℕ) (i b : ℕ) → i ≤ 0 → 0 < length l → set l 0 b ≡ pushed i l b
+pub weighed-found : (w : ℕ) (l : List ℕ) (b : ℕ) → Distinct l → b ≢ none → length l ≤ suc w → lineOf l b < length l → weighed w l b + lineOf l b ≡ w
+unfolding weighed lineOf
+weighed-found w [] b a n s h = absurd (not-suc-le-zero h)
+weighed-found w (x ∷ l) b a n s h =
+    elim (ℕ-discrete x b) [
+      | yes e ↦ rw (eq-eqb x b e) (omega (arith, weighed-none (w - 1) l b (once x b l a n e)))
+      | no f ↦
+          let g : lineOf l b < length l = omega (arith, rw (ne-eqb x b f) at h) in
+          rw (ne-eqb x b f) (omega (arith, weighed-found (w - 1) l b (rest-distinct x l a) n (omega arith) g))
+    ]
+
+-- the lines 0 to j of a shift are what stood one before, the others what stood there
+pushed-low : (j : ℕ) (l : List ℕ) (b i : ℕ) → j < length l → i ≤ j → getD (pushed j l b) i 0 ≡ getD (b ∷ l) i 0
 unfolding pushed
-push-end [] i b e h = absurd (not-suc-le-zero h)
-push-end (x ∷ l) zero b e h = refl
-push-end (x ∷ l) (suc i) b e h = absurd (omega arith)
+pushed-low j [] b i h g = absurd (not-suc-le-zero h)
+pushed-low j (x ∷ l) b zero h g = refl
+pushed-low zero (x ∷ l) b (suc i) h g = absurd (not-suc-le-zero g)
+pushed-low (suc j) (x ∷ l) b (suc i) h g = pushed-low j l x i (le-of-suc-le-suc h) (le-of-suc-le-suc g)
 
-empty-parts : (x : ℕ) (l : List ℕ) → empty (x ∷ l) ≡ true → (x ≡ none) × (empty l ≡ true)
-unfolding empty
-empty-parts x l h = go (eqb x none) refl h
-  where
-    go : (t : Bool) → eqb x none ≡ t → cond t (empty l) false ≡ true → (x ≡ none) × (empty l ≡ true)
-    go true e h = (eqb-true x none e, h)
-    go false e h = absurd (true≢false (sym h))
+pushed-high : (j : ℕ) (l : List ℕ) (b i : ℕ) → j < length l → j < i → getD (pushed j l b) i 0 ≡ getD l i 0
+unfolding pushed
+pushed-high j [] b i h g = absurd (not-suc-le-zero h)
+pushed-high j (x ∷ l) b zero h g = absurd (not-suc-le-zero g)
+pushed-high zero (x ∷ l) b (suc i) h g = refl
+pushed-high (suc j) (x ∷ l) b (suc i) h g = pushed-high j l x i (le-of-suc-le-suc h) (le-of-suc-le-suc g)
 
-all-empty : (n : ℕ) (l : List ℕ) → n < length l → empty l ≡ true → none ∷ without n l ≡ l
-unfolding without
-all-empty n [] e h = absurd (not-suc-le-zero e)
-all-empty zero (x ∷ l) e h = ap {B = List ℕ} (λ y. y ∷ l) (sym (empty-parts x l h .0))
-all-empty (suc n) (x ∷ l) e h =
-    let p = empty-parts x l h in
-    rw (p .0) (ap {B = List ℕ} (λ m. none ∷ m) (all-empty n l (le-of-suc-le-suc e) (p .1)))
-
-emptied : (n k : ℕ) (l : List ℕ) → n < length l → k < n → empty (drop (suc k) l) ≡ true → set (without n l) k none ≡ without k l
-unfolding without
-emptied n k [] e h m = absurd (not-suc-le-zero e)
-emptied zero k (x ∷ l) e h m = absurd (not-suc-le-zero h)
-emptied (suc n) zero (x ∷ l) e h m = all-empty n l (le-of-suc-le-suc e) m
-emptied (suc n) (suc k) (x ∷ l) e h m =
-    ap {B = List ℕ} (λ r. x ∷ r) (emptied n k l (le-of-suc-le-suc e) (le-of-suc-le-suc h) m)
-
-pub length-pushed : (n : ℕ) (l : List ℕ) (b : ℕ) → n < length l → length (pushed n l b) ≡ length l
+length-pushed : (n : ℕ) (l : List ℕ) (b : ℕ) → n < length l → length (pushed n l b) ≡ length l
 unfolding pushed
 length-pushed n l b h = rw (length-append, length-take, length-drop) (omega arith)
 
--- "A miss moves all one down; the last is lost": where lines moved up to line n, and that is line k or a later one or the last of all, line k is emptied again
-module _ (n k : ℕ) (l : List ℕ) (b : ℕ) (low : n < length l) (some : 0 < k) (m : empty (drop k l) ≡ true) where
-  down-short : k ≤ n → set (pushed n l b) k none ≡ oneDown k l b
-  unfolding pushed without
-  down-short h = go k some m h
-    where
-      go : (k : ℕ) → 0 < k → empty (drop k l) ≡ true → k ≤ n → set (pushed n l b) k none ≡ oneDown k l b
-      go zero p m h = absurd (not-suc-le-zero p)
-      go (suc k) p m h = simp unary-clauses (ap {B = List ℕ} (λ r. b ∷ r) (emptied n k l low h m))
+-- "A hit at line j moves the block to line 0 and lines 0 to j-1 one down."
+pub moved-pushed : (j n : ℕ) (l : List ℕ) (b : ℕ) → length l ≡ 8 → j < 8 → n ≡ suc j → movedBy (keptFrom n) l b ≡ pushed j l b
+unfolding movedBy keptFrom
+moved-pushed j n l b e h q =
+    table-is _ 8 (pushed j l b) (length-pushed j l b (omega arith) ∙ e)
+    (λ i g.
+    rw (getD-table (λ i. cond (ltb i n) 0 none) 8 i 0 g)
+    (elim (decLt i n) [
+      | yes y ↦ rw (lt-ltb i n y) (sym (pushed-low j l b i (omega arith) (omega arith)))
+      | no y ↦ rw (le-ltb i n (omega arith)) (sym (pushed-high j l b i (omega arith) (omega arith)))
+    ]))
 
-  pub one-down : k ≤ length l → min k (length l - 1) ≤ n → set (pushed n l b) k none ≡ oneDown k l b
-  one-down q h =
-      elim (decLt k (length l)) [
-        | yes y ↦ down-short (omega arith)
-        | no y ↦
-            let z : n ≡ k - 1 = omega arith in
-            set-out (pushed n l b) k none (omega (arith, length-pushed n l b low)) ∙ ap (λ (i : ℕ). pushed i l b) z
-      ]
+-- with the weight of line j the lines after it stay too, with weight 0 none besides
+pub kept-none : (n : ℕ) → keptAfter 0 (keptFrom n) ≡ keptFrom n
+unfolding keptAfter keptFrom
+kept-none n =
+    same-table _ _ 8 (λ i g. rw (le-ltb (15 - i) 0 (omega arith)) (getD-table (λ i. cond (ltb i n) 0 none) 8 i 0 g))
+
+pub kept-line : (w j n : ℕ) → w + j ≡ 15 → j < 8 → keptAfter w (keptFrom n) ≡ keptFrom (min (suc j) n)
+unfolding keptAfter keptFrom
+kept-line w j n e h =
+    same-table _ _ 8
+    (λ i g.
+    rw (getD-table (λ i. cond (ltb i n) 0 none) 8 i 0 g)
+    (elim (decLt (15 - i) w) [
+      | yes y ↦ rw (lt-ltb (15 - i) w y, le-ltb i (min (suc j) n) (omega arith))
+      | no y ↦
+          rw (le-ltb (15 - i) w (omega arith))
+          (elim (decLt i n) [
+            | yes z ↦ rw (lt-ltb i n z, lt-ltb i (min (suc j) n) (omega arith))
+            | no z ↦ rw (le-ltb i n (omega arith), le-ltb i (min (suc j) n) (omega arith))
+          ])
+    ]))
+
+-- the mask while it is made: the lines below n, those from n to i-1, and the others
+unfoldable pub made : ℕ → ℕ → ℕ → ℕ
+made n i j = cond (ltb j n) 0 (cond (ltb j i) none 0)
+
+pub made-start : (n : ℕ) → table (λ j. 0) 8 ≡ table (made n n) 8
+unfolding made
+made-start n =
+    same-table _ _ 8
+    (λ j h. elim (decLt j n) [ yes y ↦ rw (lt-ltb j n y) | no y ↦ rw (le-ltb j n (omega arith)) ])
+
+pub made-more : (n i : ℕ) (l : List ℕ) → n ≤ i → i < 8 → l ≡ table (made n i) 8 → set l i none ≡ table (made n (i + 1)) 8
+unfolding made
+made-more n i l h g e =
+    sym
+    (table-is (made n (i + 1)) 8 (set l i none) (length-set l i none ∙ ap length e ∙ length-table (made n i) 8)
+    (λ j q.
+    elim (ℕ-discrete j i) [
+      | yes p ↦
+          rw (p, le-ltb i n h, lt-ltb i (i + 1) (omega arith))
+          (sym (getD-set-same l i none 0 (omega (arith, ap length e, length-table (made n i) 8))))
+      | no p ↦
+          rw (getD-set-other l i j none 0 p, e, getD-table (made n i) 8 j 0 q)
+          (elim (decLt j i) [
+            | yes y ↦ rw (lt-ltb j i y, lt-ltb j (i + 1) (omega arith))
+            | no y ↦ rw (le-ltb j i (omega arith), le-ltb j (i + 1) (omega arith))
+          ])
+    ]))
+
+pub made-end : (n i : ℕ) → 8 ≤ i → table (made n i) 8 ≡ keptFrom n
+unfolding made keptFrom
+made-end n i h = same-table _ _ 8 (λ j q. rw (lt-ltb j i (omega arith)))

@@ -1,5 +1,5 @@
--- The steps of the three machines, from what the parts of the code give: the line of b, the shifted lines, the new bits. Assumes nothing.
-use Prim.Native.Nat.{ℕ, _+_, _-_, _^_, _<_, _≤_, min}
+-- The steps of the three machines, from what the parts of the code give: the weight of b's line, the shifted lines, the new bits. Assumes nothing.
+use Prim.Native.Nat.{ℕ, suc, _+_, _-_, _^_, _<_, _≤_, min}
 use native.Mathlib.Decide.{decLt}
 use native.Mathlib.Omega.{arith}
 use mathlib.Core.Path.{_≡_, refl, sym, _∙_, ap}
@@ -9,20 +9,22 @@ use mathlib.Core.List.{List}
 use lib.ListN.{length, getD, drop, set}
 use lib.Dec.{ltb}
 use lib.Seq.{set-getD, getD-drop}
-use borrow.Author.Tests.{ltb-true, ltb-false}
+use borrow.Author.Tests.{lt-ltb, le-ltb}
 use Rattle.paper.specs.declared.SetState.{SetState}
-use Rattle.paper.specs.Machines.{none, lineOf, pushed, oneDown, victim, marked, nmruLine, lruStep, fifoStep, nmruStep, distinct, empty, legal}
+use Rattle.paper.specs.Machines.{none, lineOf, oneDown, victim, marked, nmruLine, lruStep, fifoStep, nmruStep, distinct, empty, legal}
 use Rattle.paper.specs.Ready.{Ready, stateOf, steppedOf}
+use Rattle.paper.specs.Shifts.{keptFrom, weighed, keptAfter, movedBy}
 use Rattle.paper.proofs.Says.{says-true, both}
-use Rattle.paper.proofs.States.{Offered, legal-few, says-legal, says-empty, line-at}
-use Rattle.paper.proofs.Lines.{line-hit, hit-yes, hit-no, one-down}
+use Rattle.paper.proofs.States.{Offered, legal-few, says-legal, says-distinct, says-empty, line-at}
+use Rattle.paper.proofs.Lines.{line-hit, hit-yes, hit-no, weighed-none, weighed-found, moved-pushed, kept-none, kept-line}
 
 -- what a step on the lines asks for, of a legal state
 module _ (p k : ℕ) (s : SetState) (l : legal p k s ≡ true) where
   pub legal-ready : Offered p k → Ready k (s .lines)
   unfolding legal
   legal-ready o =
-      record { low = o .least; high = o .most; beyond = both (empty (drop k (s .lines))) _ (both (distinct (s .lines)) _ l .1) .0 }
+      let d = both (distinct (s .lines)) _ l in
+      record { low = o .least; high = o .most; beyond = both (empty (drop k (s .lines))) _ (d .1) .0; apart = d .0 }
 
   pub nmru-bits : p ≡ 2 → s .bits + 1 < 2 ^ k
   nmru-bits e = omega (arith, legal-few p k (s .bits) e (says-true (says-legal p k s) l .bits))
@@ -38,49 +40,62 @@ among k l b r n h =
           absurd (n (sym (line-at l b none h) ∙ (rw e at (sym (getD-drop k l (j - k) none) ∙ says-true (says-empty (drop k l)) (r .beyond) (j - k)))))
     ]
 
-module _ (k : ℕ) (l : List ℕ) (n b j : ℕ) (r : Ready k l) (w : length l ≡ 8) (e : j ≡ lineOf l b) where
+-- w is the sum over the lines that hold b: it tells whether b stands in one, and in which
+module _ (k : ℕ) (l : List ℕ) (n b w : ℕ) (r : Ready k l) (c : b ≢ none) (e : length l ≡ 8) (f : w ≡ weighed 15 l b) where
   fits : k ≤ length l
   fits = omega (arith, r .high)
 
-  same-line : j < k → set l j b ≡ l
-  same-line h =
-      let g : lineOf l b < length l = omega (arith, fits) in
-      ap (λ (x : ℕ). set l j x) (sym (line-at l b 0 g) ∙ ap (λ (i : ℕ). getD l i 0) (sym e)) ∙ set-getD l j 0
+  found : lineOf l b < 8 → (w + lineOf l b ≡ 15) × (lineOf l b < k)
+  found h =
+      let q = weighed-found 15 l b (says-true (says-distinct l) (r .apart)) c (omega arith) (omega arith) in
+      (omega arith, among k l b r c (omega arith))
 
-  -- lines moved up to line i, line k emptied again
-  missed : (i : ℕ) (p m : List ℕ) → i < 8 → min k 7 ≤ i → p ≡ pushed i l b → m ≡ set p k none → m ≡ oneDown k l b
-  missed i p m h g f z =
-      z ∙ ap (λ (q : List ℕ). set q k none) f ∙ one-down i k l b (omega arith) (r .low) (r .beyond) fits (omega arith)
+  none-found : 8 ≤ lineOf l b → w ≡ 0
+  none-found h = f ∙ weighed-none 15 l b (omega arith)
 
-  pub fifo-hit : j < k → steppedOf l n true ≡ fifoStep k (stateOf l n) b
-  unfolding fifoStep
-  fifo-hit h = rw (hit-yes k l b j fits e h)
+  pub hit-line : 0 < w → (w + lineOf l b ≡ 15) × (lineOf l b < k)
+  hit-line h = elim (decLt (lineOf l b) 8) [ yes y ↦ found y | no y ↦ absurd (omega (arith, none-found (omega arith))) ]
 
-  pub fifo-miss : (p m : List ℕ) → k ≤ j → p ≡ pushed 7 l b → m ≡ set p k none → steppedOf m n false ≡ fifoStep k (stateOf l n) b
-  unfolding fifoStep
-  fifo-miss p m h f z = rw (hit-no k l b j fits e h, missed 7 p m (omega arith) (omega arith) f z)
+  miss-line : w ≤ 0 → 8 ≤ lineOf l b
+  miss-line h = elim (decLt (lineOf l b) 8) [ yes y ↦ absurd (omega (arith, found y, r .high)) | no y ↦ omega arith ]
 
-  pub nmru-hit : (q : ℕ) → j < k → q ≡ marked k n j → steppedOf l q true ≡ nmruStep k (stateOf l n) b
-  unfolding nmruStep nmruLine
-  nmru-hit q h f = rw (hit-yes k l b j fits e h, ← line-hit k l b j fits e h, same-line h, f)
+  same-line : (j : ℕ) → j ≡ lineOf l b → j < 8 → set l j b ≡ l
+  same-line j q h =
+      let g : lineOf l b < length l = omega arith in
+      ap (λ (x : ℕ). set l j x) (sym (line-at l b 0 g) ∙ ap (λ (i : ℕ). getD l i 0) (sym q)) ∙ set-getD l j 0
 
-  pub nmru-miss : (q v : ℕ) → k ≤ j → v ≡ victim k n → q ≡ marked k n v → steppedOf (set l v b) q false ≡ nmruStep k (stateOf l n) b
-  unfolding nmruStep nmruLine
-  nmru-miss q v h g f = rw (hit-no k l b j fits e h, f, g)
+  missed : w ≤ 0 → movedBy (keptFrom k) l b ≡ oneDown k l b
+  missed h = moved-pushed (k - 1) k l b e (omega (arith, r .high, r .low)) (omega (arith, r .low))
 
--- LRU, by whether the block stands in a line
-module _ (k : ℕ) (l : List ℕ) (n b : ℕ) (r : Ready k l) (w : length l ≡ 8) where
-  pub lru-hit : (m : List ℕ) → b ≢ none → true ≡ ltb (lineOf l b) 8 → m ≡ pushed (min (lineOf l b) 7) l b → steppedOf m n true ≡ lruStep k (stateOf l n) b
+  pub lru-took : steppedOf (movedBy (keptAfter w (keptFrom k)) l b) n (ltb 0 w) ≡ lruStep k (stateOf l n) b
   unfolding lruStep
-  lru-hit m c t f =
-      let h = among k l b r c (omega (arith, ltb-true (lineOf l b) 8 (sym t))) in
-      let z : min (lineOf l b) 7 ≡ lineOf l b = omega (arith, r .high) in
-      let q : k ≤ length l = omega (arith, r .high) in
-      rw (hit-yes k l b _ q refl h, ← line-hit k l b _ q refl h, f, z)
+  lru-took =
+      elim (decLt 0 w) [
+        | yes y ↦
+            let h = hit-line y in
+            let z : min (suc (lineOf l b)) k ≡ suc (lineOf l b) = omega arith in
+            rw (lt-ltb 0 w y, hit-yes k l b _ fits refl (h .1), ← line-hit k l b _ fits refl (h .1), kept-line w (lineOf l b) k (h .0) (omega (arith, r .high)), moved-pushed (lineOf l b) (min (suc (lineOf l b)) k) l b e (omega (arith, r .high)) z)
+        | no y ↦
+            let z : w ≡ 0 = omega arith in
+            let h = miss-line (omega arith) in
+            rw (le-ltb 0 w (omega arith), hit-no k l b _ fits refl (omega (arith, r .high)), z, kept-none k, missed (omega arith))
+      ]
 
-  pub lru-miss :
-      (p m : List ℕ) → false ≡ ltb (lineOf l b) 8 → p ≡ pushed (min (lineOf l b) 7) l b → m ≡ set p k none → steppedOf m n false ≡ lruStep k (stateOf l n) b
-  unfolding lruStep
-  lru-miss p m t f z =
-      let h = ltb-false (lineOf l b) 8 (sym t) in
-      rw (hit-no k l b _ (omega (arith, r .high)) refl (omega (arith, r .high)), missed k l n b _ r w refl (min (lineOf l b) 7) p m (omega arith) (omega (arith, r .high)) f z)
+  pub fifo-hit : 0 < w → steppedOf l n true ≡ fifoStep k (stateOf l n) b
+  unfolding fifoStep
+  fifo-hit h = rw (hit-yes k l b _ fits refl (hit-line h .1))
+
+  pub fifo-miss : w ≤ 0 → steppedOf (movedBy (keptFrom k) l b) n false ≡ fifoStep k (stateOf l n) b
+  unfolding fifoStep
+  fifo-miss h = rw (hit-no k l b _ fits refl (omega (arith, r .high, miss-line h)), missed h)
+
+  pub nmru-hit : (q j : ℕ) → 0 < w → j + w ≡ 15 → q ≡ marked k n j → steppedOf l q true ≡ nmruStep k (stateOf l n) b
+  unfolding nmruStep nmruLine
+  nmru-hit q j h g m =
+      let y = hit-line h in
+      let z : j ≡ lineOf l b = omega arith in
+      rw (hit-yes k l b j fits z (omega arith), ← line-hit k l b j fits z (omega arith), same-line j z (omega (arith, r .high)), m)
+
+  pub nmru-miss : (q v : ℕ) → w ≤ 0 → v ≡ victim k n → q ≡ marked k n v → steppedOf (set l v b) q false ≡ nmruStep k (stateOf l n) b
+  unfolding nmruStep nmruLine
+  nmru-miss q v h g m = rw (hit-no k l b _ fits refl (omega (arith, r .high, miss-line h)), m, g)

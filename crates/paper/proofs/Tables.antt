@@ -3,7 +3,7 @@ use Prim.Native.Nat.{ℕ, zero, suc, _+_, _-_, _≤_, _<_}
 use native.Mathlib.Omega.{arith}
 use native.Mathlib.Numerals.{add-one}
 use mathlib.Core.List.{List, [], _∷_, _++_, append-assoc}
-use mathlib.Core.Path.{_≡_, refl, sym, _∙_, ap}
+use mathlib.Core.Path.{_≡_, refl, sym, _∙_, ap, ap₂}
 use lib.ListN.{length, getD, drop, set, length-append, length-drop}
 use Rattle.paper.specs.Lists.{table}
 use lib.Seq.{drop-cons, set-at, append-snoc}
@@ -24,6 +24,20 @@ unfolding table
 getD-table g zero i d h = absurd (omega arith)
 getD-table g (suc n) zero d h = refl
 getD-table g (suc n) (suc i) d h = getD-table (λ k. g (suc k)) n i d (omega arith)
+
+-- a table is known by its entries, and so is a list
+pub same-table : {A : Type 0} (f g : ℕ → A) (n : ℕ) → ((i : ℕ) → i < n → f i ≡ g i) → table f n ≡ table g n
+unfolding table
+same-table f g zero h = refl
+same-table f g (suc n) h = ap₂ _∷_ (h 0 (omega arith)) (same-table (λ i. f (suc i)) (λ i. g (suc i)) n (λ i q. h (suc i) (omega arith)))
+
+pub table-list : (l : List ℕ) → table (λ i. getD l i 0) (length l) ≡ l
+unfolding table
+table-list [] = refl
+table-list (x ∷ l) = ap {B = List ℕ} (λ r. x ∷ r) (table-list l)
+
+pub table-is : (g : ℕ → ℕ) (n : ℕ) (l : List ℕ) → length l ≡ n → ((i : ℕ) → i < n → g i ≡ getD l i 0) → table g n ≡ l
+table-is g n l e h = same-table g (λ i. getD l i 0) n h ∙ ap (table (λ i. getD l i 0)) (sym e) ∙ table-list l
 
 -- the first k are written, the others as they were
 pub record Written (g : ℕ → ℕ) (n : ℕ) (old : List ℕ) (k : ℕ) (l : List ℕ) : Type 0 where

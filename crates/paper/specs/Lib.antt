@@ -22,3 +22,4 @@ pub mod Checked
 pub mod NextBits
 pub mod Patterns
 pub mod Ready
+pub mod Shifts

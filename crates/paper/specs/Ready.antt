@@ -1,4 +1,4 @@
--- A set's lines where they lie, and the state and the step that they make with bits beside them. What a step on the lines asks for: k ways, and "the lines from k on are empty".
+-- The state and the step that lines make with bits beside them. What a step asks for: k ways, "no block stands in two lines, the lines from k on are empty".
 use Prim.Native.Nat.{ℕ, _<_, _≤_}
 use mathlib.Core.Path.{_≡_}
 use mathlib.Core.Bool.{Bool, true}
@@ -6,7 +6,7 @@ use mathlib.Core.List.{List}
 use lib.ListN.{drop}
 use Rattle.paper.specs.declared.SetState.{SetState}
 use Rattle.paper.specs.declared.Stepped.{Stepped}
-use Rattle.paper.specs.Machines.{empty}
+use Rattle.paper.specs.Machines.{distinct, empty}
 
 abbrev pub stateOf : List ℕ → ℕ → SetState
 stateOf lines bits = record { lines = lines; bits = bits }
@@ -18,3 +18,4 @@ pub record Ready (k : ℕ) (lines : List ℕ) : Type 0 where
   pub low : 0 < k
   pub high : k ≤ 8
   pub beyond : empty (drop k lines) ≡ true
+  pub apart : distinct lines ≡ true

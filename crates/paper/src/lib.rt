@@ -4,21 +4,23 @@ ghost use Rattle.paper.specs.Answers as Answers;
 
 mod cache;
 mod ceilings;
+mod eight;
 mod methods;
 
 pub use cache::home;
+pub use cache::home_in;
 pub use cache::is_in_range;
 pub use cache::is_offered;
 pub use cache::is_set_count;
+pub use cache::sets_of;
 pub use ceilings::LONGEST_INPUT;
 pub use ceilings::MOST_BOUND;
 pub use ceilings::MOST_EDGES;
 pub use ceilings::MOST_FACTS;
 pub use ceilings::MOST_LOOPS;
 pub use ceilings::MOST_NODES;
-pub use methods::fifo_lines;
-pub use methods::lru_lines;
-pub use methods::nmru_lines;
+pub use eight::kept_from;
+pub use methods::shift_of;
 
 // "Addresses, block numbers and set numbers, which the sources distinguish, are each kept apart."
 pub struct Address(pub u32);
@@ -39,10 +41,17 @@ pub struct Stepped {
     pub hit: bool,
 }
 
-// An NMRU step on lines where they lie: the new bits, and whether the access hit.
-pub struct Marked {
-    pub bits: u8,
-    pub hit: bool,
+// Which lines stay where they are when a block comes to line 0: those from k on, and, where the block stood in the line with this weight, those after it too.
+pub struct Shift {
+    pub beyond: [u16; 8],
+    pub weight: u16,
+    pub kept: [u16; 8],
+}
+
+// A number of sets, and what takes the place of a division by it.
+pub struct Sets {
+    pub count: u64,
+    pub inverse: u64,
 }
 
 // "Each returns number and place."

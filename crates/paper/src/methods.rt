@@ -1,103 +1,20 @@
-// One step of each machine: on a set's eight lines where they lie, and by value on the set state.
+// One step of each machine, by value on the set state: the lines go back shifted or replaced, with hit or miss.
 ghost use mathlib.Core.Path.{_≡_};
 ghost use mathlib.Core.Logic.{_≢_};
-ghost use Prim.Native.Nat.{ℕ, _+_, _-_, _^_, _<_, _≤_, min};
-ghost use lib.Dec.{ltb};
-ghost use lib.ListN.{length, set};
-ghost use Rattle.paper.specs.Machines.{none, lineOf, pushed, victim, marked, lruStep, fifoStep, nmruStep};
+ghost use Prim.Native.Nat.{_+_, _^_, _<_, _≤_};
+ghost use Rattle.paper.specs.Machines.{none, victim, marked, lruStep, fifoStep, nmruStep};
 ghost use Rattle.paper.specs.NextBits.{nextBits};
-ghost use Rattle.paper.specs.Ready.{Ready, stateOf, steppedOf};
+ghost use Rattle.paper.specs.Ready.{Ready, steppedOf};
+ghost use Rattle.paper.specs.Shifts.{keptFrom, weighed, shiftBy, shiftAt};
 use crate::Block;
-use crate::Marked;
 use crate::SetState;
+use crate::Shift;
 use crate::Stepped;
-
-// The line that b stands in; 8 where it stands in none.
-fn line_of(lines: &[u16; 8], b: u16) -> usize
-    requires { ⌜ length (now lines) ≡ 8 ⌝ }
-    ensures { λ r. ⌜ r ≡ lineOf (now (lines .entry)) b ⌝ }
-{
-    let mut i: usize = 0;
-    while i < 8 {
-        if lines[i] == b {
-            return i;
-        }
-        i += 1;
-    }
-    i
-}
-
-// All lines one down, the last of them first, and b in line 0.
-fn push(lines: &mut [u16; 8], b: u16)
-    requires { ⌜ length (now lines) ≡ 8 ⌝ }
-    ensures { λ r. ⌜ now (lines .exit) ≡ pushed 7 (now (lines .entry)) b ⌝ }
-{
-    let mut i: usize = 7;
-    while i > 0 {
-        lines[i] = lines[i - 1];
-        i -= 1;
-    }
-    lines[0] = b;
-}
-
-// b comes to line 0 and each line one down, up to the one that b stood in: the search and the shift in one go. It answers whether b stood in one.
-fn carry(lines: &mut [u16; 8], b: u16) -> bool
-    requires { ⌜ length (now lines) ≡ 8 ⌝ }
-    ensures { λ r. ⌜ r ≡ ltb (lineOf (now (lines .entry)) b) 8 ⌝ }
-    ensures { λ r. ⌜ now (lines .exit) ≡ pushed (min (lineOf (now (lines .entry)) b) 7) (now (lines .entry)) b ⌝ }
-{
-    let mut carried = b;
-    let mut i: usize = 0;
-    while i < 8 {
-        let here = lines[i];
-        lines[i] = carried;
-        if here == b {
-            return true;
-        }
-        carried = here;
-        i += 1;
-    }
-    false
-}
-
-// The lines from k on are empty. Where more than k lines were moved, line k is emptied again: "the last is lost."
-fn empty_line(lines: &mut [u16; 8], k: usize)
-    requires { ⌜ length (now lines) ≡ 8 ⌝ }
-    ensures { λ r. ⌜ now (lines .exit) ≡ set (now (lines .entry)) k none ⌝ }
-{
-    if k < 8 {
-        lines[k] = 65535;
-    }
-}
-
-// LRU on the lines where they lie, whatever the bits n beside them. The lines from k on are empty, so a block that stands in a line stands in one of the k.
-pub fn lru_lines(lines: &mut [u16; 8], k: usize, b: u16) -> bool
-    requires { ⌜ Ready k (now lines) ⌝ }
-    requires { ⌜ b ≢ none ⌝ }
-    requires { ⌜ length (now lines) ≡ 8 ⌝ }
-    ensures { λ r. ⌜ ((n : ℕ) → steppedOf (now (lines .exit)) n r ≡ lruStep k (stateOf (now (lines .entry)) n) b) ⌝ }
-{
-    if carry(lines, b) {
-        return true;
-    }
-    empty_line(lines, k);
-    false
-}
-
-// FIFO on the lines where they lie, whatever the bits n beside them.
-pub fn fifo_lines(lines: &mut [u16; 8], k: usize, b: u16) -> bool
-    requires { ⌜ Ready k (now lines) ⌝ }
-    requires { ⌜ length (now lines) ≡ 8 ⌝ }
-    ensures { λ r. ⌜ ((n : ℕ) → steppedOf (now (lines .exit)) n r ≡ fifoStep k (stateOf (now (lines .entry)) n) b) ⌝ }
-{
-    let at = line_of(lines, b);
-    if at < k {
-        return true;
-    }
-    push(lines, b);
-    empty_line(lines, k);
-    false
-}
+use crate::eight::kept_after;
+use crate::eight::kept_from;
+use crate::eight::moved;
+use crate::eight::replaced;
+use crate::eight::weight;
 
 // "A miss takes the lowest line whose bit is 0": at least one of the low k is.
 fn lowest_clear(bits: u8, k: usize) -> usize
@@ -127,31 +44,6 @@ fn mark(bits: u8, k: usize, j: usize, next: &[u8; 2048]) -> u8
     if q == full { m as u8 } else { q as u8 }
 }
 
-// NMRU on the lines where they lie; the next-bits table is lent.
-pub fn nmru_lines(lines: &mut [u16; 8], bits: u8, k: usize, b: u16, next: &[u8; 2048]) -> Marked
-    requires { ⌜ Ready k (now lines) ⌝ }
-    requires { ⌜ length (now lines) ≡ 8 ⌝ }
-    requires { ⌜ bits + 1 < 2 ^ k ⌝ }
-    requires { ⌜ now next ≡ nextBits ⌝ }
-    ensures { λ r. ⌜ steppedOf (now (lines .exit)) (r .bits) (r .hit) ≡ nmruStep k (stateOf (now (lines .entry)) bits) b ⌝ }
-{
-    let j = line_of(lines, b);
-    if j < k {
-        let new = mark(bits, k, j, next);
-        return Marked {
-            bits: new,
-            hit: true,
-        };
-    }
-    let v = lowest_clear(bits, k);
-    lines[v] = b;
-    let new = mark(bits, k, v, next);
-    Marked {
-        bits: new,
-        hit: false,
-    }
-}
-
 fn stepped(lines: [u16; 8], bits: u8, hit: bool) -> Stepped
     ensures { λ r. ⌜ r ≡ steppedOf lines bits hit ⌝ }
 {
@@ -164,38 +56,83 @@ fn stepped(lines: [u16; 8], bits: u8, hit: bool) -> Stepped
     }
 }
 
+fn shift_at(weight: u16, beyond: [u16; 8]) -> Shift
+    ensures { λ r. ⌜ r ≡ shiftBy beyond weight ⌝ }
+{
+    let kept = kept_after(weight, beyond);
+    Shift {
+        beyond: beyond,
+        weight: weight,
+        kept: kept,
+    }
+}
+
+// What a miss moves in a set of k ways.
+pub fn shift_of(k: usize) -> Shift
+    requires { ⌜ k ≤ 8 ⌝ }
+    ensures { λ r. ⌜ r ≡ shiftAt k 0 ⌝ }
+{
+    shift_at(0, kept_from(k))
+}
+
 // "hands the new state back with hit or miss"
 impl SetState {
-    pub fn lru(self, k: usize, block: Block) -> Stepped
-        requires { ⌜ Ready k (self .lines) ⌝ }
-        requires { ⌜ block .0 ≢ none ⌝ }
-        ensures { λ r. ⌜ r ≡ lruStep k self (block .0) ⌝ }
+    // What LRU moves for this block. The last shift is handed on while the blocks come from the same line, as they do in a loop: then a step need not wait for the search.
+    pub fn shift(self, k: usize, block: Block, last: Shift) -> Shift
+        requires { ⌜ last ≡ shiftAt k (last .weight) ⌝ }
+        ensures { λ r. ⌜ r ≡ shiftAt k (weighed 15 (self .lines) (block .0)) ⌝ }
     {
-        let mut lines = self.lines;
-        let bits = self.bits;
-        let hit = lru_lines(&mut lines, k, block.0);
-        stepped(lines, bits, hit)
+        let lines = self.lines;
+        let w = weight(lines, block.0);
+        if w == last.weight {
+            return last;
+        }
+        let beyond = last.beyond;
+        shift_at(w, beyond)
     }
 
-    pub fn fifo(self, k: usize, block: Block) -> Stepped
+    pub fn lru(self, k: usize, block: Block, shift: Shift) -> Stepped
         requires { ⌜ Ready k (self .lines) ⌝ }
+        requires { ⌜ block .0 ≢ none ⌝ }
+        requires { ⌜ shift ≡ shiftAt k (weighed 15 (self .lines) (block .0)) ⌝ }
+        ensures { λ r. ⌜ r ≡ lruStep k self (block .0) ⌝ }
+    {
+        let lines = self.lines;
+        let kept = shift.kept;
+        stepped(moved(kept, lines, block.0), self.bits, 0 < shift.weight)
+    }
+
+    pub fn fifo(self, k: usize, block: Block, beyond: [u16; 8]) -> Stepped
+        requires { ⌜ Ready k (self .lines) ⌝ }
+        requires { ⌜ block .0 ≢ none ⌝ }
+        requires { ⌜ beyond ≡ keptFrom k ⌝ }
         ensures { λ r. ⌜ r ≡ fifoStep k self (block .0) ⌝ }
     {
-        let mut lines = self.lines;
-        let bits = self.bits;
-        let hit = fifo_lines(&mut lines, k, block.0);
-        stepped(lines, bits, hit)
+        let lines = self.lines;
+        if 0 < weight(lines, block.0) {
+            return stepped(lines, self.bits, true);
+        }
+        stepped(moved(beyond, lines, block.0), self.bits, false)
     }
 
     pub fn nmru(self, k: usize, block: Block, next: &[u8; 2048]) -> Stepped
         requires { ⌜ Ready k (self .lines) ⌝ }
+        requires { ⌜ block .0 ≢ none ⌝ }
         requires { ⌜ self .bits + 1 < 2 ^ k ⌝ }
         requires { ⌜ now next ≡ nextBits ⌝ }
         ensures { λ r. ⌜ r ≡ nmruStep k self (block .0) ⌝ }
     {
-        let mut lines = self.lines;
+        let lines = self.lines;
         let bits = self.bits;
-        let t = nmru_lines(&mut lines, bits, k, block.0, next);
-        stepped(lines, t.bits, t.hit)
+        let w = weight(lines, block.0);
+        if 0 < w {
+            return stepped(lines, mark(bits, k, (15 - w) as usize, next), true);
+        }
+        let v = lowest_clear(bits, k);
+        stepped(
+            replaced(lines, v as u16, block.0),
+            mark(bits, k, v, next),
+            false,
+        )
     }
 }

@@ -1,16 +1,25 @@
 -- What a trace run that is not refused asks for and gives, and the contents that the run's arrays hold.
 use Prim.Native.Nat.{ℕ, _<_, _≤_}
 use mathlib.Core.Path.{_≡_}
-use mathlib.Core.Bool.{true, false}
-use mathlib.Core.List.{List, _++_}
-use lib.ListN.{length, getD, drop, replicate}
-use Rattle.paper.specs.Machines.{none, emptySet, offered}
-use Rattle.paper.specs.Ready.{stateOf}
+use mathlib.Core.Bool.{true, false, cond}
+use mathlib.Core.List.{List, [], _++_}
+use lib.Dec.{eqb}
+use lib.ListN.{length, getD, drop}
+use Rattle.paper.specs.declared.SetState.{SetState}
+use Rattle.paper.specs.Machines.{emptySet, offered}
 use Rattle.paper.specs.Traces.{Content, marks, total, badAccess}
 
--- Eight lines for each set, and a byte of bits for each; a machine without bits has none.
-unfoldable pub held : List (List ℕ) → List ℕ → Content
-held lines bits q = stateOf (getD lines q (replicate 8 none)) (getD bits q 0)
+-- A state for each set.
+unfoldable pub held : List SetState → Content
+held states q = getD states q emptySet
+
+-- The same, but that of one set is held apart.
+unfoldable pub heldApart : List SetState → ℕ → SetState → Content
+heldApart states at s q = cond (eqb q at) s (held states q)
+
+-- what stands past the end
+abbrev pub noLines : SetState
+noLines = record { lines = []; bits = 0 }
 
 -- "all sets start empty with bits 0"
 unfoldable pub made : ℕ → ℕ → ℕ → List ℕ → List ℕ

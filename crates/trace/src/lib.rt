@@ -1,14 +1,13 @@
 // The trace run: every access steps the machine of its set.
 ghost use mathlib.Core.Path.{_≡_};
 ghost use mathlib.Core.Bool.{not};
-ghost use mathlib.Core.Logic.{_≢_};
-ghost use Prim.Native.Nat.{ℕ, _<_, _≤_};
+ghost use Prim.Native.Nat.{_≤_};
 ghost use lib.ListN.{length};
 ghost use Rattle.paper.specs.Lists as Lists;
-ghost use Rattle.paper.specs.Machines as Machines;
-ghost use Rattle.paper.specs.Ready.{Ready, stateOf, steppedOf};
 ghost use Rattle.paper.specs.Traces as Traces;
 ghost use Rattle.trace.specs.Runs.{Runs, Ran};
+use paper::Block;
+use paper::SetState;
 use paper::TraceAnswer;
 
 // The least access whose block is none; the number of accesses where there is none such.
@@ -33,33 +32,62 @@ fn mark_of(hit: bool) -> u8
     if hit { 0 } else { 1 }
 }
 
-// One step of LRU or FIFO, whatever the bits n beside the lines.
-fn step_lines(policy: u8, lines: &mut [u16; 8], k: usize, b: u16) -> bool
-    requires { ⌜ policy < 2 ⌝ }
-    requires { ⌜ b ≢ Machines.none ⌝ }
-    requires { ⌜ Ready k (now lines) ⌝ }
-    requires { ⌜ length (now lines) ≡ 8 ⌝ }
-    ensures { λ r. ⌜ ((n : ℕ) → steppedOf (now (lines .exit)) n r ≡ Machines.step policy k (stateOf (now (lines .entry)) n) b) ⌝ }
+fn lru_run(k: usize, sets: u8, blocks: &[u16], marks: &mut [u8]) -> usize
+    requires { ⌜ Runs 0 k sets (now blocks) (now marks) ⌝ }
+    ensures { λ r. ⌜ Ran 0 k sets (now (blocks .entry)) (now (marks .entry)) r (now (marks .exit)) ⌝ }
 {
-    if policy == 0 {
-        return paper::lru_lines(lines, k, b);
-    }
-    paper::fifo_lines(lines, k, b)
-}
-
-// LRU and FIFO, which have no bits.
-fn lines_run(policy: u8, k: usize, sets: u8, blocks: &[u16], marks: &mut [u8]) -> usize
-    requires { ⌜ policy < 2 ⌝ }
-    requires { ⌜ Runs policy k sets (now blocks) (now marks) ⌝ }
-    ensures { λ r. ⌜ Ran policy k sets (now (blocks .entry)) (now (marks .entry)) r (now (marks .exit)) ⌝ }
-{
-    let mut lines = [[65535u16; 8]; 64];
+    let all = paper::sets_of(sets);
+    let mut shift = paper::shift_of(k);
+    let mut states = [SetState {
+        lines: [65535u16; 8],
+        bits: 0,
+    }; 64];
+    let mut state = states[0];
+    let mut last: usize = 0;
     let mut misses: usize = 0;
     let mut i: usize = 0;
     while i < blocks.len() {
         let b = blocks[i];
-        let at = paper::home(b, sets) as usize;
-        let m = mark_of(step_lines(policy, &mut lines[at], k, b));
+        let at = paper::home_in(b, all);
+        if at != last {
+            states[last] = state;
+            state = states[at];
+            last = at;
+        }
+        let n = state.shift(k, Block(b), shift);
+        let t = state.lru(k, Block(b), n);
+        let m = mark_of(t.hit);
+        shift = n;
+        state = t.state;
+        marks[i] = m;
+        misses += m as usize;
+        i += 1;
+    }
+    misses
+}
+
+fn fifo_run(k: usize, sets: u8, blocks: &[u16], marks: &mut [u8]) -> usize
+    requires { ⌜ Runs 1 k sets (now blocks) (now marks) ⌝ }
+    ensures { λ r. ⌜ Ran 1 k sets (now (blocks .entry)) (now (marks .entry)) r (now (marks .exit)) ⌝ }
+{
+    let all = paper::sets_of(sets);
+    let beyond = paper::kept_from(k);
+    let mut states = [SetState {
+        lines: [65535u16; 8],
+        bits: 0,
+    }; 64];
+    let mut misses: usize = 0;
+    let mut i: usize = 0;
+    while i < blocks.len() {
+        let b = blocks[i];
+        let at = paper::home_in(b, all);
+        let s = states[at];
+        let t = s.fifo(k, Block(b), beyond);
+        if !t.hit {
+            let new = t.state;
+            states[at] = new;
+        }
+        let m = mark_of(t.hit);
         marks[i] = m;
         misses += m as usize;
         i += 1;
@@ -71,17 +99,27 @@ fn nmru_run(k: usize, sets: u8, blocks: &[u16], marks: &mut [u8]) -> usize
     requires { ⌜ Runs 2 k sets (now blocks) (now marks) ⌝ }
     ensures { λ r. ⌜ Ran 2 k sets (now (blocks .entry)) (now (marks .entry)) r (now (marks .exit)) ⌝ }
 {
+    let all = paper::sets_of(sets);
     let next = machine::next_bits();
-    let mut lines = [[65535u16; 8]; 64];
-    let mut bits = [0u8; 64];
+    let mut states = [SetState {
+        lines: [65535u16; 8],
+        bits: 0,
+    }; 64];
+    let mut state = states[0];
+    let mut last: usize = 0;
     let mut misses: usize = 0;
     let mut i: usize = 0;
     while i < blocks.len() {
         let b = blocks[i];
-        let at = paper::home(b, sets) as usize;
-        let t = paper::nmru_lines(&mut lines[at], bits[at], k, b, &next);
-        bits[at] = t.bits;
+        let at = paper::home_in(b, all);
+        if at != last {
+            states[last] = state;
+            state = states[at];
+            last = at;
+        }
+        let t = state.nmru(k, Block(b), &next);
         let m = mark_of(t.hit);
+        state = t.state;
         marks[i] = m;
         misses += m as usize;
         i += 1;
@@ -94,10 +132,13 @@ fn run(policy: u8, k: usize, sets: u8, blocks: &[u16], marks: &mut [u8]) -> usiz
     requires { ⌜ Runs policy k sets (now blocks) (now marks) ⌝ }
     ensures { λ r. ⌜ Ran policy k sets (now (blocks .entry)) (now (marks .entry)) r (now (marks .exit)) ⌝ }
 {
-    if policy == 2 {
-        return nmru_run(k, sets, blocks, marks);
+    if policy == 0 {
+        return lru_run(k, sets, blocks, marks);
     }
-    lines_run(policy, k, sets, blocks, marks)
+    if policy == 1 {
+        return fifo_run(k, sets, blocks, marks);
+    }
+    nmru_run(k, sets, blocks, marks)
 }
 
 // "Trace run: 3, 20, 21."

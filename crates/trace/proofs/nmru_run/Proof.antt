@@ -1,42 +1,74 @@
--- `trace::nmru_run` meets its contract, by the law of the loop. Assumes nothing.
-use Prim.Native.Nat.{_-_}
+-- `trace::nmru_run` meets its contract, by the law of the loop.
+use Prim.Native.Nat.{ℕ, _-_, _%_, _<_}
 use native.Mathlib.Omega.{arith}
-use mathlib.Core.Path.{_≡_, refl, _∙_}
-use lib.ListN.{length, replicate, length-set}
-use lib.Seq.{getD-set-same, getD-set-other}
+use mathlib.Core.Path.{_≡_, refl, ap, _∙_}
+use mathlib.Core.Logic.{⊎-elim}
+use lib.ListN.{length, getD}
 use borrow.Author.Needs.{needs}
-use Rattle.paper.specs.Machines.{step}
-use Rattle.trace.proofs.Going.{Going, getD-alike, going-start, going-more, going-end, row-ready, row-bits}
+use Rattle.paper.specs.declared.Sets.{Sets}
+use Rattle.trace.specs.Runs.{heldApart}
+use Rattle.trace.proofs.Going.{Going, going-start, going-same, going-more, going-end, set-ready, set-bits, no-none}
+use Rattle.trace.proofs.Held.{Turned, stays, turns, apart-here, apart-other, apart-empty, sets-known, step-nmru}
 use Rattle.trace.proofs.nmru_run.Statement.{statement}
 use Rattle.trace.proofs.nmru_run.Tie as tie
 
 abbrev Inv-loop : tie.InvT-loop
-Inv-loop k sets blocks marks₀ next lines₀ bits₀ misses₀ i₀ marks lines bits misses i = Going 2 k sets blocks marks₀ marks lines bits misses i × (length bits ≡ 64)
+Inv-loop k sets blocks marks₀ all next states₀ state₀ last₀ misses₀ i₀ marks states state last misses i =
+    Going 2 k sets blocks marks₀ marks (heldApart states last state) misses i × (length states ≡ 64) × (last < 64)
 
 abbrev μ-loop : tie.MeasureT-loop
-μ-loop k sets blocks marks₀ next lines₀ bits₀ misses₀ i₀ marks lines bits misses i = length blocks - i
+μ-loop k sets blocks marks₀ all next states₀ state₀ last₀ misses₀ i₀ marks states state last misses i = length blocks - i
 
 loop-holds : tie.Need-loop-holds Inv-loop μ-loop
-loop-holds c = (going-start _ _ _ _ _ (c .before .before .before .pre) (replicate 64 0) (λ q. getD-alike 64 q 0), refl)
+loop-holds c =
+    let s = c .before .before .before .before .before in
+    (going-start 2 _ _ _ _ (s .pre) _ (λ q. apart-empty 64 0 q), refl, omega arith)
 
-nmru-lines-requires : tie.Need-nmru-lines-requires Inv-loop μ-loop
-nmru-lines-requires c κs =
-    let s = c .before .before .before .before .before .before .before .before .before in
-    let v = c .before .before .before .before .before .loop in
-    let a = c .before .before .home in
-    let r = row-ready 2 _ _ _ _ (s .pre) _ (v .lines) (v .bits) _ _ (v .inv .0) (a .result) (a .ensures .1) in
-    (r .0, (r .1, (row-bits 2 _ _ _ _ (s .pre) _ (v .lines) (v .bits) _ _ (v .inv .0) (a .result) (a .ensures .1) refl, c .before .before .before .before .before .before .next-bits .ensures)))
+home-in-requires : tie.Need-home-in-requires Inv-loop μ-loop
+home-in-requires c κs =
+    let r = c .before .before .before .before .before .before .before .before .pre in
+    sets-known _ _ (c .before .before .before .before .before .sets-of .ensures) (r .low) (r .high)
+
+-- the access's set is the one that is held apart
+turned :
+    (c : tie.Joined1 Inv-loop μ-loop) →
+    let v = c .before .before .before .before .loop in
+    Turned (v .states) (v .last) (v .state) (c .before .home-in .result) (c .if1 .states) (c .if1 .last) (c .if1 .state)
+turned c =
+    let v = c .before .before .before .before .loop in
+    ⊎-elim
+    (λ w. turns _ _ _ _ _ _ _ (omega (arith, v .inv .1, v .inv .2)) (omega (arith, v .inv .1, c .before .home-in .ensures .1)) (w .0 .taken) (w .2) (w .3) (w .4))
+    (λ w. stays _ _ _ _ _ _ _ (w .0 .left) (w .1) (w .2) (w .3))
+    (c .if1 .came)
+
+nmru-requires : tie.Need-nmru-requires Inv-loop μ-loop
+nmru-requires c κs =
+    let d = c .before in
+    let f = d .if1 in
+    let v = d .before .before .before .before .loop in
+    let p = d .before .before .before .before .before .before .before .before .before .before .pre in
+    let g = going-same 2 _ _ _ _ p _ _ _ _ (v .inv .0) (heldApart (f .states) (f .last) (f .state)) (turned d .same) in (
+      set-ready 2 _ _ _ _ p _ _ _ _ g (f .state) (f .last) (apart-here _ _ _),
+      (no-none 2 _ _ _ _ p (v .i) (omega arith), (set-bits 2 _ _ _ _ p _ _ _ _ g (f .state) (f .last) (apart-here _ _ _) refl, d .before .before .before .before .before .before .next-bits .ensures)),
+    )
 
 loop-again : tie.Need-loop-again Inv-loop μ-loop
-unfolding step
 loop-again c =
-    let s = c .before .before .before .before .before .before .before .before .before .before .before in
-    let v = c .before .before .before .before .before .before .before .loop in
-    let a = c .before .before .before .before .home in
-    let t = c .before .nmru-lines in (
-      going-more 2 _ _ _ _ (s .pre) _ (v .lines) (v .bits) _ (v .i) (v .inv .0) (omega arith) _ (a .result) refl (a .ensures .0) (a .ensures .1) _ (t .result .bits) (t .result .hit) (t .ensures) _
-          (getD-set-same (v .bits) (a .result) (t .result .bits) 0 (omega arith)) (λ q f. getD-set-other (v .bits) (a .result) q (t .result .bits) 0 f) _ (c .mark-of .ensures .0) (c .mark-of .ensures .1),
-      length-set (v .bits) (a .result) (t .result .bits) ∙ v .inv .1,
+    let d = c .before .before .before .before in
+    let f = d .if1 in
+    let v = d .before .before .before .before .loop in
+    let a = d .before .home-in in
+    let s = d .before .before .before .before .before .before .before .before .before .before in
+    let n = d .before .before .before .before .before .before .before .sets-of in
+    let u = turned d in
+    let g = going-same 2 _ _ _ _ (s .pre) _ _ _ _ (v .inv .0) (heldApart (f .states) (f .last) (f .state)) (u .same) in
+    let t = c .before .before .nmru in
+    let b = getD (s .args .blocks .now) (v .i) 0 in
+    let e : f .last ≡ b % s .args .sets = u .here ∙ a .ensures .0 ∙ ap (λ (x : Sets). b % x .count) (n .ensures) in (
+      going-more 2 _ _ _ _ (s .pre) _ _ _ (v .i) g (omega arith) _ (f .last) refl e (t .result) (step-nmru _ _ (f .state) _ (apart-here _ _ _) _ (t .ensures))
+          (heldApart (f .states) (f .last) (t .result .state)) (apart-here _ _ _) (apart-other _ _ _ _) _ (c .before .mark-of .ensures .0) (c .before .mark-of .ensures .1),
+      u .long ∙ v .inv .1,
+      omega (arith, u .here, a .ensures .1),
     )
 
 pub nmru-run-spec : {M : Type 1} → statement M
@@ -46,16 +78,17 @@ nmru-run-spec =
     Inv-loop
     μ-loop
     (λ c κs. search needs)
+    (λ c κs. search needs)
+    (λ c. search needs)
     loop-holds
     (λ c. search needs)
     (λ c. search needs)
-    (λ c κs. search needs)
+    home-in-requires
     (λ c. search needs)
     (λ c. search needs)
     (λ c. search needs)
     (λ c. search needs)
-    nmru-lines-requires
-    (λ c. search needs)
+    nmru-requires
     (λ c κs. search needs)
     (λ c. search needs)
     (λ c. search needs)
@@ -64,4 +97,4 @@ nmru-run-spec =
     (λ c. search needs)
     loop-again
     (λ c. c .before .loop .inv .0 .same)
-    (λ c. going-end 2 _ _ _ _ (c .before .before .before .before .before .pre) _ _ _ _ _ (c .before .loop .inv .0) (omega arith)))
+    (λ c. going-end 2 _ _ _ _ (c .before .before .before .before .before .before .before .pre) _ _ _ _ (c .before .loop .inv .0) (omega arith)))

@@ -1,6 +1,6 @@
--- `trace::run` meets its contract. Assumes nothing.
+-- `trace::run` meets its contract.
 use native.Mathlib.Omega.{arith}
-use mathlib.Core.Path.{sym}
+use mathlib.Core.Path.{_≡_, sym}
 use borrow.Author.Needs.{needs}
 use Rattle.paper.proofs.Says.{says-true}
 use Rattle.paper.proofs.States.{says-offered}
@@ -8,18 +8,42 @@ use Rattle.trace.proofs.Going.{runs-at, ran-at}
 use Rattle.trace.proofs.run.Statement.{statement}
 use Rattle.trace.proofs.run.Tie as tie
 
-nmru-run-requires : tie.Need-nmru-run-requires
-nmru-run-requires c κs = runs-at (c .before .if1 .taken) (c .before .before .before .before .pre)
+lru-run-requires : tie.Need-lru-run-requires
+lru-run-requires c κs = runs-at (c .before .if1 .taken) (c .before .before .before .before .pre)
 
 returns : tie.Need-returns
-returns c = ran-at (sym (c .before .before .before .before .if1 .taken)) (c .before .before .nmru-run .ensures)
+returns c = ran-at (sym (c .before .before .before .before .if1 .taken)) (c .before .before .lru-run .ensures)
 
-lines-run-requires : tie.Need-lines-run-requires
-lines-run-requires c κs =
-    let r = c .before .before .before .before .pre in
-    (omega (arith, says-true (says-offered _ _) (r .offers) .known), r)
+fifo-run-requires : tie.Need-fifo-run-requires
+fifo-run-requires c κs = runs-at (c .before .if2 .taken) (c .before .before .before .before .before .pre)
+
+returns-2 : tie.Need-returns-2
+returns-2 c = ran-at (sym (c .before .before .before .before .if2 .taken)) (c .before .before .fifo-run .ensures)
+
+-- a policy that is neither LRU nor FIFO is NMRU
+nmru-run-requires : tie.Need-nmru-run-requires
+nmru-run-requires c κs =
+    let s = c .before .before .before .before .before in
+    let e : s .args .policy ≡ 2 = omega (arith, c .before .before .if1 .left, c .before .if2 .left, says-true (says-offered _ _) (s .pre .offers) .known) in
+    runs-at e (s .pre)
+
+returns-3 : tie.Need-returns-3
+returns-3 c =
+    let d = c .before .before .before in
+    let s = d .before .before .before .before .before in
+    let e : 2 ≡ s .args .policy = omega (arith, d .before .before .if1 .left, d .before .if2 .left, says-true (says-offered _ _) (s .pre .offers) .known) in
+    ran-at e (c .before .before .nmru-run .ensures)
 
 pub run-spec : {M : Type 1} → statement M
 run-spec =
     tie.close
-    (tie.spec nmru-run-requires (λ c. search needs) returns lines-run-requires (λ c. search needs) (λ c. search needs))
+    (tie.spec
+    lru-run-requires
+    (λ c. search needs)
+    returns
+    fifo-run-requires
+    (λ c. search needs)
+    returns-2
+    nmru-run-requires
+    (λ c. search needs)
+    returns-3)

@@ -1,0 +1,13 @@
+-- `paper::eight::moved_at` meets its contract.
+use borrow.Author.Tests.{eq-eqb, ne-eqb}
+use Rattle.paper.proofs.eight.moved_at.Statement.{statement}
+use Rattle.paper.proofs.eight.moved_at.Tie as tie
+
+returns : tie.Need-returns
+returns c = rw (eq-eqb _ _ (c .if1 .taken))
+
+returns-2 : tie.Need-returns-2
+returns-2 c = rw (ne-eqb _ _ (c .if1 .left))
+
+pub moved-at-spec : {M : Type 1} → statement M
+moved-at-spec = tie.close (tie.spec returns returns-2)

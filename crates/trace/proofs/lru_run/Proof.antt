@@ -1,0 +1,116 @@
+-- `trace::lru_run` meets its contract, by the law of the loop.
+use Prim.Native.Nat.{ℕ, _-_, _%_, _<_}
+use native.Mathlib.Omega.{arith}
+use mathlib.Core.Path.{_≡_, refl, ap, _∙_}
+use mathlib.Core.Logic.{⊎-elim}
+use lib.ListN.{length, getD}
+use borrow.Author.Needs.{needs}
+use Rattle.paper.specs.declared.Sets.{Sets}
+use Rattle.paper.specs.Shifts.{shiftAt}
+use Rattle.paper.proofs.Says.{says-true}
+use Rattle.paper.proofs.States.{says-offered}
+use Rattle.trace.specs.Runs.{heldApart}
+use Rattle.trace.proofs.Going.{Going, going-start, going-same, going-more, going-end, set-ready, no-none}
+use Rattle.trace.proofs.Held.{Turned, stays, turns, apart-here, apart-other, apart-empty, sets-known, shift-known, step-lru}
+use Rattle.trace.proofs.lru_run.Statement.{statement}
+use Rattle.trace.proofs.lru_run.Tie as tie
+
+abbrev Inv-loop : tie.InvT-loop
+Inv-loop k sets blocks marks₀ all shift₀ states₀ state₀ last₀ misses₀ i₀ marks shift states state last misses i =
+    Going 0 k sets blocks marks₀ marks (heldApart states last state) misses i × (length states ≡ 64) × (last < 64) × (shift ≡ shiftAt k (shift .weight))
+
+abbrev μ-loop : tie.MeasureT-loop
+μ-loop k sets blocks marks₀ all shift₀ states₀ state₀ last₀ misses₀ i₀ marks shift states state last misses i = length blocks - i
+
+shift-of-requires : tie.Need-shift-of-requires Inv-loop μ-loop
+shift-of-requires c κs = says-true (says-offered 0 _) (c .before .before .before .pre .offers) .most
+
+loop-holds : tie.Need-loop-holds Inv-loop μ-loop
+loop-holds c =
+    let s = c .before .before .before .before .before in
+    (going-start 0 _ _ _ _ (s .pre) _ (λ q. apart-empty 64 0 q), refl, omega arith, shift-known _ _ (c .before .shift-of .ensures))
+
+home-in-requires : tie.Need-home-in-requires Inv-loop μ-loop
+home-in-requires c κs =
+    let r = c .before .before .before .before .before .before .before .before .pre in
+    sets-known _ _ (c .before .before .before .before .before .sets-of .ensures) (r .low) (r .high)
+
+-- the access's set is the one that is held apart
+turned :
+    (c : tie.Joined1 Inv-loop μ-loop) →
+    let v = c .before .before .before .before .loop in
+    Turned (v .states) (v .last) (v .state) (c .before .home-in .result) (c .if1 .states) (c .if1 .last) (c .if1 .state)
+turned c =
+    let v = c .before .before .before .before .loop in
+    ⊎-elim
+    (λ w. turns _ _ _ _ _ _ _ (omega (arith, v .inv .1, v .inv .2)) (omega (arith, v .inv .1, c .before .home-in .ensures .1)) (w .0 .taken) (w .2) (w .3) (w .4))
+    (λ w. stays _ _ _ _ _ _ _ (w .0 .left) (w .1) (w .2) (w .3))
+    (c .if1 .came)
+
+lru-requires : tie.Need-lru-requires Inv-loop μ-loop
+lru-requires c κs =
+    let d = c .before in
+    let v = d .before .before .before .before .loop in
+    let p = d .before .before .before .before .before .before .before .before .before .before .pre in
+    let g = going-same 0 _ _ _ _ p _ _ _ _ (v .inv .0) (heldApart (d .if1 .states) (d .if1 .last) (d .if1 .state)) (turned d .same) in
+    (set-ready 0 _ _ _ _ p _ _ _ _ g (d .if1 .state) (d .if1 .last) (apart-here _ _ _), (no-none 0 _ _ _ _ p (v .i) (omega arith), c .shift .ensures))
+
+add-misses : tie.Need-add-misses Inv-loop μ-loop
+add-misses c =
+    let v = c .before .before .before .before .before .before .before .before .loop in
+    let s = c .before .before .before .before .before .before .before .before .before .before .before .before .before in
+    search (needs, v .inv .0 .few, c .before .mark-of .ensures .1, s .shared-slice-known .given)
+
+add-i : tie.Need-add-i Inv-loop μ-loop
+add-i c =
+    let s = c .before .before .before .before .before .before .before .before .before .before .before .before .before in
+    search (needs, s .shared-slice-known .given)
+
+loop-again : tie.Need-loop-again Inv-loop μ-loop
+loop-again c =
+    let d = c .before .before .before .before in
+    let f = d .if1 in
+    let v = d .before .before .before .before .loop in
+    let a = d .before .home-in in
+    let s = d .before .before .before .before .before .before .before .before .before .before in
+    let n = d .before .before .before .before .before .before .before .sets-of in
+    let u = turned d in
+    let g = going-same 0 _ _ _ _ (s .pre) _ _ _ _ (v .inv .0) (heldApart (f .states) (f .last) (f .state)) (u .same) in
+    let t = c .before .before .lru in
+    let b = getD (s .args .blocks .now) (v .i) 0 in
+    let e : f .last ≡ b % s .args .sets = u .here ∙ a .ensures .0 ∙ ap (λ (x : Sets). b % x .count) (n .ensures) in (
+      going-more 0 _ _ _ _ (s .pre) _ _ _ (v .i) g (omega arith) _ (f .last) refl e (t .result) (step-lru _ _ (f .state) _ (apart-here _ _ _) _ (t .ensures))
+          (heldApart (f .states) (f .last) (t .result .state)) (apart-here _ _ _) (apart-other _ _ _ _) _ (c .before .mark-of .ensures .0) (c .before .mark-of .ensures .1),
+      u .long ∙ v .inv .1,
+      omega (arith, u .here, a .ensures .1),
+      shift-known _ _ (c .before .before .before .shift .ensures),
+    )
+
+pub lru-run-spec : {M : Type 1} → statement M
+lru-run-spec =
+    tie.close
+    (tie.spec
+    Inv-loop
+    μ-loop
+    (λ c κs. search needs)
+    shift-of-requires
+    (λ c. search needs)
+    loop-holds
+    (λ c. search needs)
+    (λ c. search needs)
+    home-in-requires
+    (λ c. search needs)
+    (λ c. search needs)
+    (λ c. search needs)
+    (λ c. search needs)
+    (λ c κs. search needs)
+    lru-requires
+    (λ c κs. search needs)
+    (λ c. search needs)
+    (λ c. search needs)
+    add-misses
+    add-i
+    (λ c. search needs)
+    loop-again
+    (λ c. c .before .loop .inv .0 .same)
+    (λ c. going-end 0 _ _ _ _ (c .before .before .before .before .before .before .before .pre) _ _ _ _ (c .before .loop .inv .0) (omega arith)))
