@@ -35,7 +35,8 @@ fn take_step(policy: u8, k: usize, state: SetState, block: Block) -> Stepped
         return state.fifo(k, block, paper::kept_from(k));
     }
     let next = next_bits();
-    state.nmru(k, block, &next)
+    let line = state.line(k, block);
+    state.nmru(k, block, line, &next)
 }
 
 // "a refused step hands back the state it was given"

@@ -1,5 +1,5 @@
 -- Laws of a set's eight lines by value: the sum that tells a block's line, and what a shift of the lines that are not kept is.
-use Prim.Native.Nat.{ℕ, zero, suc, _+_, _-_, _<_, _≤_, min}
+use Prim.Native.Nat.{ℕ, zero, suc, _+_, _-_, _^_, _<_, _≤_, min}
 use native.Mathlib.Nat.{not-suc-le-zero, le-of-suc-le-suc}
 use native.Mathlib.Decide.{ℕ-discrete, decLt}
 use native.Mathlib.Omega.{arith}
@@ -9,11 +9,12 @@ use mathlib.Core.Bool.{Bool, true, false, cond}
 use mathlib.Core.List.{List, [], _∷_}
 use lib.Dec.{eqb, ltb}
 use lib.ListN.{length, getD, take, drop, set, length-set, length-append, length-take, length-drop}
+use lib.Pow.{pow-lt, pow-mono}
 use lib.Seq.{getD-set-same, getD-set-other}
 use borrow.Author.Tests.{eq-eqb, ne-eqb, lt-ltb, le-ltb}
 use Rattle.paper.specs.Lists.{table}
 use Rattle.paper.specs.Machines.{none, lineOf, hits, pushed}
-use Rattle.paper.specs.Shifts.{keptFrom, weighed, keptAfter, movedBy}
+use Rattle.paper.specs.Shifts.{keptFrom, weightOf, weighed, keptAfter, movedBy, replacedBy}
 use Rattle.paper.proofs.States.{Distinct, line-at}
 use Rattle.paper.proofs.Tables.{getD-table, length-table, same-table, table-is}
 
@@ -22,24 +23,33 @@ pub eight : (g : ℕ → ℕ) {x₀ x₁ x₂ x₃ x₄ x₅ x₆ x₇ : ℕ} �
 unfolding table
 eight g e₀ e₁ e₂ e₃ e₄ e₅ e₆ e₇ = rw (e₀, e₁, e₂, e₃, e₄, e₅, e₆, e₇)
 
-pub eight-weighed : (l : List ℕ) (b : ℕ) {x₀ x₁ x₂ x₃ x₄ x₅ x₆ x₇ : ℕ} → length l ≡ 8 → let g : ℕ → ℕ = λ i. cond (eqb (getD l i 0) b) (15 - i) 0 in x₀ ≡ g 0 → x₁ ≡ g 1 → x₂ ≡ g 2 → x₃ ≡ g 3 → x₄ ≡ g 4 → x₅ ≡ g 5 → x₆ ≡ g 6 → x₇ ≡ g 7 → x₀ + (x₁ + (x₂ + (x₃ + (x₄ + (x₅ + (x₆ + x₇)))))) ≡ weighed 15 l b
+pub eight-weighed :
+    (l : List ℕ) (b : ℕ) {x₀ x₁ x₂ x₃ x₄ x₅ x₆ x₇ : ℕ} → length l ≡ 8 →
+    let g : ℕ → ℕ = λ i. cond (eqb (getD l i 0) b) (weightOf i) 0 in
+    x₀ ≡ g 0 → x₁ ≡ g 1 → x₂ ≡ g 2 → x₃ ≡ g 3 → x₄ ≡ g 4 → x₅ ≡ g 5 → x₆ ≡ g 6 → x₇ ≡ g 7 → x₀ + (x₁ + (x₂ + (x₃ + (x₄ + (x₅ + (x₆ + x₇)))))) ≡ weighed 0 l b
 unfolding table weighed
 eight-weighed l b e e₀ e₁ e₂ e₃ e₄ e₅ e₆ e₇ =
-    let f : weighed 15 (table (λ i. getD l i 0) 8) b ≡ weighed 15 l b = ap (λ (m : List ℕ). weighed 15 m b) (table-is (λ i. getD l i 0) 8 l e (λ i h. refl)) in
+    let f : weighed 0 (table (λ i. getD l i 0) 8) b ≡ weighed 0 l b = ap (λ (m : List ℕ). weighed 0 m b) (table-is (λ i. getD l i 0) 8 l e (λ i h. refl)) in
     omega arith
 
+-- bits have different values
+bit-apart : (i j : ℕ) → (i ≡ j → ⊥) → 2 ^ i ≡ 2 ^ j → ⊥
+bit-apart i j n e =
+    elim (decLt i j) [ yes y ↦ omega (arith, pow-lt {i = i} {j = j} y) | no y ↦ omega (arith, pow-lt {i = j} {j = i} (omega arith)) ]
+
 -- a line is replaced
-pub table-set : (l : List ℕ) (j b : ℕ) → length l ≡ 8 → table (λ i. cond (eqb j i) b (getD l i 0)) 8 ≡ set l j b
-table-set l j b e =
+pub replaced-set : (l : List ℕ) (m j b : ℕ) → length l ≡ 8 → m ≡ 2 ^ j → replacedBy l m b ≡ set l j b
+unfolding replacedBy
+replaced-set l m j b e f =
     table-is _ 8 (set l j b) (length-set l j b ∙ e)
     (λ i h.
     elim (ℕ-discrete j i) [
-      | yes p ↦ rw (eq-eqb j i p, p) (sym (getD-set-same l i b 0 (omega arith)))
-      | no n ↦ rw (ne-eqb j i n) (sym (getD-set-other l j i b 0 (λ q. n (sym q))))
+      | yes p ↦ rw (eq-eqb m (2 ^ i) (f ∙ ap (λ (n : ℕ). 2 ^ n) p), p) (sym (getD-set-same l i b 0 (omega arith)))
+      | no n ↦ rw (ne-eqb m (2 ^ i) (λ q. bit-apart j i n (sym f ∙ q))) (sym (getD-set-other l j i b 0 (λ q. n (sym q))))
     ])
 
 -- of the first k lines, the search through all of them finds the same
-line-take : (k : ℕ) (l : List ℕ) (b : ℕ) → k ≤ length l → lineOf (take k l) b ≡ min k (lineOf l b)
+pub line-take : (k : ℕ) (l : List ℕ) (b : ℕ) → k ≤ length l → lineOf (take k l) b ≡ min k (lineOf l b)
 unfolding lineOf
 line-take zero l b h = omega arith
 line-take (suc k) [] b h = absurd (not-suc-le-zero h)
@@ -70,25 +80,41 @@ once x b l a n e =
       | no y ↦ omega arith
     ]
 
-pub weighed-none : (w : ℕ) (l : List ℕ) (b : ℕ) → length l ≤ lineOf l b → weighed w l b ≡ 0
+pub weighed-none : (j : ℕ) (l : List ℕ) (b : ℕ) → length l ≤ lineOf l b → weighed j l b ≡ 0
 unfolding weighed lineOf
-weighed-none w [] b h = refl
-weighed-none w (x ∷ l) b h =
+weighed-none j [] b h = refl
+weighed-none j (x ∷ l) b h =
     elim (ℕ-discrete x b) [
       | yes e ↦ absurd (omega (arith, rw (eq-eqb x b e) at h))
-      | no n ↦ rw (ne-eqb x b n) (omega (arith, weighed-none (w - 1) l b (omega (arith, rw (ne-eqb x b n) at h))))
+      | no n ↦ rw (ne-eqb x b n) (omega (arith, weighed-none (suc j) l b (omega (arith, rw (ne-eqb x b n) at h))))
     ]
 
-pub weighed-found : (w : ℕ) (l : List ℕ) (b : ℕ) → Distinct l → b ≢ none → length l ≤ suc w → lineOf l b < length l → weighed w l b + lineOf l b ≡ w
+pub weighed-found : (j i : ℕ) (l : List ℕ) (b : ℕ) → Distinct l → b ≢ none → lineOf l b < length l → i ≡ j + lineOf l b → weighed j l b ≡ weightOf i
 unfolding weighed lineOf
-weighed-found w [] b a n s h = absurd (not-suc-le-zero h)
-weighed-found w (x ∷ l) b a n s h =
+weighed-found j i [] b a n h q = absurd (not-suc-le-zero h)
+weighed-found j i (x ∷ l) b a n h q =
     elim (ℕ-discrete x b) [
-      | yes e ↦ rw (eq-eqb x b e) (omega (arith, weighed-none (w - 1) l b (once x b l a n e)))
+      | yes e ↦
+          let p : j ≡ i = omega (arith, rw (eq-eqb x b e) at q) in
+          rw (eq-eqb x b e) (omega (arith, ap weightOf p, weighed-none (suc j) l b (once x b l a n e)))
       | no f ↦
           let g : lineOf l b < length l = omega (arith, rw (ne-eqb x b f) at h) in
-          rw (ne-eqb x b f) (omega (arith, weighed-found (w - 1) l b (rest-distinct x l a) n (omega arith) g))
+          let p : i ≡ suc j + lineOf l b = omega (arith, rw (ne-eqb x b f) at q) in
+          rw (ne-eqb x b f) (omega (arith, weighed-found (suc j) i l b (rest-distinct x l a) n g p))
     ]
+
+-- the weights of the eight lines: none is 0, and they fall
+pub weight-bit : (j : ℕ) → j < 8 → (0 < weightOf j) × (255 - weightOf j ≡ 2 ^ j)
+unfolding weightOf
+weight-bit j h = let p = pow-mono {i = j} {j = 7} (omega arith) in (omega arith, omega arith)
+
+weight-less : (i j : ℕ) → i < 8 → j < i → weightOf i < weightOf j
+unfolding weightOf
+weight-less i j h g = omega (arith, pow-lt {i = j} {j = i} g, pow-mono {i = i} {j = 7} (omega arith))
+
+weight-more : (i j : ℕ) → i ≤ j → weightOf j ≤ weightOf i
+unfolding weightOf
+weight-more i j g = omega (arith, pow-mono {i = i} {j = j} g)
 
 -- the lines 0 to j of a shift are what stood one before, the others what stood there
 pushed-low : (j : ℕ) (l : List ℕ) (b i : ℕ) → j < length l → i ≤ j → getD (pushed j l b) i 0 ≡ getD (b ∷ l) i 0
@@ -125,18 +151,18 @@ moved-pushed j n l b e h q =
 pub kept-none : (n : ℕ) → keptAfter 0 (keptFrom n) ≡ keptFrom n
 unfolding keptAfter keptFrom
 kept-none n =
-    same-table _ _ 8 (λ i g. rw (le-ltb (15 - i) 0 (omega arith)) (getD-table (λ i. cond (ltb i n) 0 none) 8 i 0 g))
+    same-table _ _ 8 (λ i g. rw (le-ltb (weightOf i) 0 (omega arith)) (getD-table (λ i. cond (ltb i n) 0 none) 8 i 0 g))
 
-pub kept-line : (w j n : ℕ) → w + j ≡ 15 → j < 8 → keptAfter w (keptFrom n) ≡ keptFrom (min (suc j) n)
+pub kept-line : (w j n : ℕ) → w ≡ weightOf j → keptAfter w (keptFrom n) ≡ keptFrom (min (suc j) n)
 unfolding keptAfter keptFrom
-kept-line w j n e h =
+kept-line w j n e =
     same-table _ _ 8
     (λ i g.
     rw (getD-table (λ i. cond (ltb i n) 0 none) 8 i 0 g)
-    (elim (decLt (15 - i) w) [
-      | yes y ↦ rw (lt-ltb (15 - i) w y, le-ltb i (min (suc j) n) (omega arith))
+    (elim (decLt j i) [
+      | yes y ↦ rw (lt-ltb (weightOf i) w (omega (arith, weight-less i j g y)), le-ltb i (min (suc j) n) (omega arith))
       | no y ↦
-          rw (le-ltb (15 - i) w (omega arith))
+          rw (le-ltb (weightOf i) w (omega (arith, weight-more i j (omega arith))))
           (elim (decLt i n) [
             | yes z ↦ rw (lt-ltb i n z, lt-ltb i (min (suc j) n) (omega arith))
             | no z ↦ rw (le-ltb i n (omega arith), le-ltb i (min (suc j) n) (omega arith))

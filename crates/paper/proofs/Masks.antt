@@ -1,18 +1,18 @@
 -- Laws of the bits: the lowest that is 0, and the mark of an access by shift and mask and by the table. Assumes nothing.
-use Prim.Native.Nat.{ℕ, zero, suc, _+_, _-_, _*_, _/_, _%_, _^_, _<_, _≤_}
-use native.Mathlib.Nat.{one-mul, pow-suc, mod-eq-of-lt, not-suc-le-zero, le-of-suc-le-suc}
+use Prim.Native.Nat.{ℕ, zero, suc, _+_, _-_, _*_, _/_, _%_, _^_, _<_, _≤_, min}
+use native.Mathlib.Nat.{pow-suc, mod-eq-of-lt, not-suc-le-zero, le-of-suc-le-suc}
 use native.Mathlib.Decide.{ℕ-discrete, decLt}
 use native.Mathlib.Omega.{arith}
 use native.Mathlib.Numerals.{unary-clauses}
 use mathlib.Core.Path.{_≡_, refl, sym, _∙_, ap, ap₂}
-use lib.Dec.{lit<}
 use lib.ListN.{getD}
-use lib.Pow.{shl-exact, pow-pos, pow-lt, pow-mono, ones-split, high, ones-lt}
-use lib.Bits.{bitOr, or-lt}
+use lib.Pow.{pow-pos, pow-lt, pow-mono, ones-split, high, ones-lt}
+use lib.Bits.{bitOr, bitAnd, or-lt, and-step, and-zero-r}
 use lib.Count.{trailingZeros}
 use borrow.Author.Tests.{eq-eqb, ne-eqb}
 use Rattle.paper.specs.Machines.{bitAt, victim, marked}
 use Rattle.paper.specs.NextBits.{nextBits}
+use Rattle.paper.specs.Shifts.{Bit, markedBy}
 use Rattle.paper.proofs.Tables.{getD-table}
 use Rattle.paper.proofs.Least.{least-is}
 use Rattle.paper.proofs.Bits.{bit-zero, bit-suc, all-ones}
@@ -37,11 +37,11 @@ zeros (suc m) p w =
     more n r zero h = bit-zero p ∙ omega arith
     more n r (suc i) h = bit-suc p i ∙ r i (le-of-suc-le-suc h)
 
-pub victim-zeros : (k p : ℕ) → k ≤ 8 → p + 1 < 2 ^ k → trailingZeros 32 (2 ^ 32 - 1 - p) ≡ victim k p
+pub victim-zeros : (m k p : ℕ) → k ≤ m → p + 1 < 2 ^ k → trailingZeros m (2 ^ m - 1 - p) ≡ victim k p
 unfolding victim
-victim-zeros k p h g =
-    let t = trailingZeros 32 (2 ^ 32 - 1 - p) in
-    let z = zeros 32 p (omega (arith, pow-mono {i = k} {j = 32} (omega arith))) in
+victim-zeros m k p h g =
+    let t = trailingZeros m (2 ^ m - 1 - p) in
+    let z = zeros m p (omega (arith, pow-mono {i = k} {j = m} h)) in
     elim (decLt t k) [
       | yes l ↦
           sym
@@ -55,9 +55,47 @@ victim-zeros k p h g =
       | no l ↦ absurd (omega (arith, all-ones k p (λ i q. z .0 i (omega arith))))
     ]
 
--- 1 << j, at a type of w bits
-pub one-shl : (j w : ℕ) → j < w → (1 * 2 ^ j) % 2 ^ w ≡ 2 ^ j
-one-shl j w h = shl-exact 1 j w (lit< tt) (omega arith) ∙ one-mul (2 ^ j)
+-- a number and its complement have no bit in common
+and-not : (m p : ℕ) → p < 2 ^ m → bitAnd (2 ^ m - 1 - p) p ≡ 0
+and-not zero p w = let e : p ≡ 0 = omega arith in rw e (and-zero-r (2 ^ 0 - 1 - 0))
+and-not (suc m) p w =
+    let d : (2 ^ suc m - 1 - p) / 2 ≡ 2 ^ m - 1 - p / 2 = omega (arith, pow-suc 2 m, pow-pos m) in
+    let f : min ((2 ^ suc m - 1 - p) % 2) (p % 2) ≡ 0 = omega (arith, pow-suc 2 m, pow-pos m) in
+    and-step (2 ^ suc m - 1 - p) p ∙ rw (d, f, and-not m (p / 2) (omega (arith, pow-suc 2 m)))
+
+-- the bits that p's complement and p + 1 have in common: the lowest 0 of p
+low-bit : (m p : ℕ) → p + 1 < 2 ^ m → bitAnd (2 ^ m - 1 - p) (p + 1) ≡ 2 ^ trailingZeros m (2 ^ m - 1 - p)
+unfolding trailingZeros
+low-bit zero p w = absurd (omega arith)
+low-bit (suc m) p w =
+    let d : (2 ^ suc m - 1 - p) / 2 ≡ 2 ^ m - 1 - p / 2 = omega (arith, pow-suc 2 m, pow-pos m) in
+    elim (ℕ-discrete (p % 2) 0) [
+      | yes e ↦
+          let f : (2 ^ suc m - 1 - p) % 2 ≡ 1 = omega (arith, pow-suc 2 m, pow-pos m) in
+          let g : (p + 1) / 2 ≡ p / 2 = omega arith in
+          let h : (p + 1) % 2 ≡ 1 = omega arith in
+          and-step (2 ^ suc m - 1 - p) (p + 1) ∙ rw (f, d, g, h, and-not m (p / 2) (omega (arith, pow-suc 2 m)))
+      | no n ↦
+          let f : (2 ^ suc m - 1 - p) % 2 ≡ 0 = omega (arith, pow-suc 2 m, pow-pos m) in
+          let g : (p + 1) / 2 ≡ p / 2 + 1 = omega arith in
+          let h : (p + 1) % 2 ≡ 0 = omega arith in
+          let t = trailingZeros m (2 ^ m - 1 - p / 2) in
+          and-step (2 ^ suc m - 1 - p) (p + 1) ∙ rw (f, d, g, h, low-bit m (p / 2) (omega (arith, pow-suc 2 m))) (omega (arith, pow-suc 2 t))
+    ]
+
+pub victim-bit : (m k p : ℕ) → k ≤ m → p + 1 < 2 ^ k → bitAnd (2 ^ m - 1 - p) (p + 1) ≡ 2 ^ victim k p
+victim-bit m k p h g =
+    low-bit m p (omega (arith, pow-mono {i = k} {j = m} h)) ∙ ap (λ (t : ℕ). 2 ^ t) (victim-zeros m k p h g)
+
+-- a bit's place by its value
+pub zeros-bit : (m j : ℕ) → j < m → trailingZeros m (2 ^ j) ≡ j
+unfolding trailingZeros
+zeros-bit zero j h = absurd (not-suc-le-zero h)
+zeros-bit (suc m) zero h = refl
+zeros-bit (suc m) (suc j) h =
+    let f : 2 ^ suc j % 2 ≡ 0 = omega (arith, pow-suc 2 j) in
+    let d : 2 ^ suc j / 2 ≡ 2 ^ j = omega (arith, pow-suc 2 j) in
+    rw (f, d) (ap suc (zeros-bit m j (le-of-suc-le-suc h)))
 
 -- the low k bits are 1
 pub full-is : (k : ℕ) → k ≤ 8 → 255 / 2 ^ (8 - k) ≡ 2 ^ k - 1
@@ -66,16 +104,16 @@ full-is k h =
     let f : 255 ≡ (2 ^ k - 1) * 2 ^ (8 - k) + (2 ^ (8 - k) - 1) = sym (ap (λ (n : ℕ). 2 ^ n - 1) e) ∙ ones-split k (8 - k) in
     ap (λ (n : ℕ). n / 2 ^ (8 - k)) f ∙ high (2 ^ k - 1) (8 - k) (ones-lt (8 - k))
 
-module _ (k p j : ℕ) (h : j < k) (g : p + 1 < 2 ^ k) where
-  set-low : bitOr p (2 ^ j) < 2 ^ k
-  set-low = or-lt k p (2 ^ j) (omega arith) (pow-lt h)
+module _ (k p m : ℕ) (b : Bit k m) (g : p + 1 < 2 ^ k) where
+  set-low : bitOr p m < 2 ^ k
+  set-low = or-lt k p m (omega arith) (omega (arith, b .is, pow-lt {i = b .at} {j = k} (b .low)))
 
-  pub mark-full : bitOr p (2 ^ j) ≡ 2 ^ k - 1 → 2 ^ j ≡ marked k p j
-  unfolding marked
+  pub mark-full : bitOr p m ≡ 2 ^ k - 1 → m ≡ markedBy k p m
+  unfolding markedBy
   mark-full e = rw (mod-eq-of-lt set-low, eq-eqb _ _ e)
 
-  pub mark-more : (bitOr p (2 ^ j) ≡ 2 ^ k - 1 → ⊥) → bitOr p (2 ^ j) ≡ marked k p j
-  unfolding marked
+  pub mark-more : (bitOr p m ≡ 2 ^ k - 1 → ⊥) → bitOr p m ≡ markedBy k p m
+  unfolding markedBy
   mark-more n = rw (mod-eq-of-lt set-low, ne-eqb _ _ n)
 
 -- pattern p and line j at entry 8p + j

@@ -4,19 +4,21 @@ use native.Mathlib.Decide.{decLt}
 use native.Mathlib.Omega.{arith}
 use mathlib.Core.Path.{_≡_, refl, sym, _∙_, ap}
 use mathlib.Core.Logic.{_≢_}
-use mathlib.Core.Bool.{true, false}
+use mathlib.Core.Bool.{Bool, true, false}
 use mathlib.Core.List.{List}
-use lib.ListN.{length, getD, drop, set}
+use lib.ListN.{length, getD, take, drop, set}
 use lib.Dec.{ltb}
 use lib.Seq.{set-getD, getD-drop}
-use borrow.Author.Tests.{lt-ltb, le-ltb}
+use borrow.Author.Tests.{lt-ltb, le-ltb, ltb-true}
 use Rattle.paper.specs.declared.SetState.{SetState}
-use Rattle.paper.specs.Machines.{none, lineOf, oneDown, victim, marked, nmruLine, lruStep, fifoStep, nmruStep, distinct, empty, legal}
+use Rattle.paper.specs.declared.Line.{Line}
+use Rattle.paper.specs.Machines.{none, lineOf, hits, oneDown, victim, marked, nmruLine, lruStep, fifoStep, nmruStep, distinct, empty, legal}
 use Rattle.paper.specs.Ready.{Ready, stateOf, steppedOf}
-use Rattle.paper.specs.Shifts.{keptFrom, weighed, keptAfter, movedBy}
+use Rattle.paper.specs.Shifts.{keptFrom, weightOf, weighed, keptAfter, movedBy, replacedBy, Bit, markedBy, lineFor}
 use Rattle.paper.proofs.Says.{says-true, both}
 use Rattle.paper.proofs.States.{Offered, legal-few, says-legal, says-distinct, says-empty, line-at}
-use Rattle.paper.proofs.Lines.{line-hit, hit-yes, hit-no, weighed-none, weighed-found, moved-pushed, kept-none, kept-line}
+use Rattle.paper.proofs.Bits.{victim-low}
+use Rattle.paper.proofs.Lines.{line-take, line-hit, hit-yes, hit-no, weighed-none, weighed-found, weight-bit, replaced-set, moved-pushed, kept-none, kept-line}
 
 -- what a step on the lines asks for, of a legal state
 module _ (p k : ℕ) (s : SetState) (l : legal p k s ≡ true) where
@@ -40,32 +42,26 @@ among k l b r n h =
           absurd (n (sym (line-at l b none h) ∙ (rw e at (sym (getD-drop k l (j - k) none) ∙ says-true (says-empty (drop k l)) (r .beyond) (j - k)))))
     ]
 
--- w is the sum over the lines that hold b: it tells whether b stands in one, and in which
-module _ (k : ℕ) (l : List ℕ) (n b w : ℕ) (r : Ready k l) (c : b ≢ none) (e : length l ≡ 8) (f : w ≡ weighed 15 l b) where
+-- w is the sum of the weights of the lines that hold b: it tells whether b stands in one, and in which
+module _ (k : ℕ) (l : List ℕ) (n b w : ℕ) (r : Ready k l) (c : b ≢ none) (e : length l ≡ 8) (f : w ≡ weighed 0 l b) where
   fits : k ≤ length l
   fits = omega (arith, r .high)
 
-  found : lineOf l b < 8 → (w + lineOf l b ≡ 15) × (lineOf l b < k)
+  found : lineOf l b < 8 → (w ≡ weightOf (lineOf l b)) × (lineOf l b < k)
   found h =
-      let q = weighed-found 15 l b (says-true (says-distinct l) (r .apart)) c (omega arith) (omega arith) in
-      (omega arith, among k l b r c (omega arith))
+      (f ∙ weighed-found 0 (lineOf l b) l b (says-true (says-distinct l) (r .apart)) c (omega arith) (omega arith), among k l b r c (omega arith))
 
   none-found : 8 ≤ lineOf l b → w ≡ 0
-  none-found h = f ∙ weighed-none 15 l b (omega arith)
+  none-found h = f ∙ weighed-none 0 l b (omega arith)
 
-  pub hit-line : 0 < w → (w + lineOf l b ≡ 15) × (lineOf l b < k)
+  hit-line : 0 < w → (w ≡ weightOf (lineOf l b)) × (lineOf l b < k)
   hit-line h = elim (decLt (lineOf l b) 8) [ yes y ↦ found y | no y ↦ absurd (omega (arith, none-found (omega arith))) ]
 
   miss-line : w ≤ 0 → 8 ≤ lineOf l b
-  miss-line h = elim (decLt (lineOf l b) 8) [ yes y ↦ absurd (omega (arith, found y, r .high)) | no y ↦ omega arith ]
+  miss-line h = elim (decLt (lineOf l b) 8) [ yes y ↦ absurd (omega (arith, found y .0, weight-bit (lineOf l b) y .0)) | no y ↦ omega arith ]
 
-  same-line : (j : ℕ) → j ≡ lineOf l b → j < 8 → set l j b ≡ l
-  same-line j q h =
-      let g : lineOf l b < length l = omega arith in
-      ap (λ (x : ℕ). set l j x) (sym (line-at l b 0 g) ∙ ap (λ (i : ℕ). getD l i 0) (sym q)) ∙ set-getD l j 0
-
-  missed : w ≤ 0 → movedBy (keptFrom k) l b ≡ oneDown k l b
-  missed h = moved-pushed (k - 1) k l b e (omega (arith, r .high, r .low)) (omega (arith, r .low))
+  missed : movedBy (keptFrom k) l b ≡ oneDown k l b
+  missed = moved-pushed (k - 1) k l b e (omega (arith, r .high, r .low)) (omega (arith, r .low))
 
   pub lru-took : steppedOf (movedBy (keptAfter w (keptFrom k)) l b) n (ltb 0 w) ≡ lruStep k (stateOf l n) b
   unfolding lruStep
@@ -74,11 +70,11 @@ module _ (k : ℕ) (l : List ℕ) (n b w : ℕ) (r : Ready k l) (c : b ≢ none)
         | yes y ↦
             let h = hit-line y in
             let z : min (suc (lineOf l b)) k ≡ suc (lineOf l b) = omega arith in
-            rw (lt-ltb 0 w y, hit-yes k l b _ fits refl (h .1), ← line-hit k l b _ fits refl (h .1), kept-line w (lineOf l b) k (h .0) (omega (arith, r .high)), moved-pushed (lineOf l b) (min (suc (lineOf l b)) k) l b e (omega (arith, r .high)) z)
+            rw (lt-ltb 0 w y, hit-yes k l b _ fits refl (h .1), ← line-hit k l b _ fits refl (h .1), kept-line w (lineOf l b) k (h .0), moved-pushed (lineOf l b) (min (suc (lineOf l b)) k) l b e (omega (arith, r .high)) z)
         | no y ↦
             let z : w ≡ 0 = omega arith in
             let h = miss-line (omega arith) in
-            rw (le-ltb 0 w (omega arith), hit-no k l b _ fits refl (omega (arith, r .high)), z, kept-none k, missed (omega arith))
+            rw (le-ltb 0 w (omega arith), hit-no k l b _ fits refl (omega (arith, r .high)), z, kept-none k, missed)
       ]
 
   pub fifo-hit : 0 < w → steppedOf l n true ≡ fifoStep k (stateOf l n) b
@@ -87,15 +83,62 @@ module _ (k : ℕ) (l : List ℕ) (n b w : ℕ) (r : Ready k l) (c : b ≢ none)
 
   pub fifo-miss : w ≤ 0 → steppedOf (movedBy (keptFrom k) l b) n false ≡ fifoStep k (stateOf l n) b
   unfolding fifoStep
-  fifo-miss h = rw (hit-no k l b _ fits refl (omega (arith, r .high, miss-line h)), missed h)
+  fifo-miss h = rw (hit-no k l b _ fits refl (omega (arith, r .high, miss-line h)), missed)
 
-  pub nmru-hit : (q j : ℕ) → 0 < w → j + w ≡ 15 → q ≡ marked k n j → steppedOf l q true ≡ nmruStep k (stateOf l n) b
-  unfolding nmruStep nmruLine
-  nmru-hit q j h g m =
+  pub line-low : 0 < w → w ≤ 255
+  unfolding weightOf
+  line-low h = omega (arith, hit-line h .0)
+
+  pub nmru-stands : 0 < w → (record { bit = 255 - w; hit = true }) ≡ lineFor k (stateOf l n) b
+  unfolding lineFor nmruLine
+  nmru-stands h =
       let y = hit-line h in
-      let z : j ≡ lineOf l b = omega arith in
-      rw (hit-yes k l b j fits z (omega arith), ← line-hit k l b j fits z (omega arith), same-line j z (omega (arith, r .high)), m)
+      let z : 255 - w ≡ 2 ^ lineOf l b = omega (arith, y .0, weight-bit (lineOf l b) (omega (arith, r .high)) .1) in
+      rw (hit-yes k l b _ fits refl (y .1), ← line-hit k l b _ fits refl (y .1), z)
 
-  pub nmru-miss : (q v : ℕ) → w ≤ 0 → v ≡ victim k n → q ≡ marked k n v → steppedOf (set l v b) q false ≡ nmruStep k (stateOf l n) b
-  unfolding nmruStep nmruLine
-  nmru-miss q v h g m = rw (hit-no k l b _ fits refl (omega (arith, r .high, miss-line h)), m, g)
+  pub nmru-absent : (m : ℕ) → w ≤ 0 → m ≡ 2 ^ victim k n → (record { bit = m; hit = false }) ≡ lineFor k (stateOf l n) b
+  unfolding lineFor nmruLine
+  nmru-absent m h g = rw (hit-no k l b _ fits refl (omega (arith, r .high, miss-line h)), g)
+
+-- an NMRU step at the access's line
+module _ (k : ℕ) (l : List ℕ) (n b : ℕ) (r : Ready k l) (few : n + 1 < 2 ^ k) (e : length l ≡ 8) where
+  line-within : (t : Bool) → hits k l b ≡ t → nmruLine k (stateOf l n) b < k
+  unfolding nmruLine hits
+  line-within true h = rw h (ltb-true (lineOf (take k l) b) k h)
+  line-within false h = rw h (victim-low k n (omega arith))
+
+  module _ (t : Line) (f : t ≡ lineFor k (stateOf l n) b) where
+    bit-is : t .bit ≡ 2 ^ nmruLine k (stateOf l n) b
+    unfolding lineFor
+    bit-is = ap (λ (x : Line). x .bit) f
+
+    hit-is : t .hit ≡ hits k l b
+    unfolding lineFor
+    hit-is = ap (λ (x : Line). x .hit) f
+
+    pub line-bit : Bit k (t .bit)
+    line-bit = record { at = nmruLine k (stateOf l n) b; low = line-within (hits k l b) refl; is = bit-is }
+
+    bits-are : (q : ℕ) → q ≡ markedBy k n (t .bit) → q ≡ marked k n (nmruLine k (stateOf l n) b)
+    unfolding markedBy marked
+    bits-are q g = g ∙ ap (markedBy k n) bit-is
+
+    same-line : hits k l b ≡ true → set l (nmruLine k (stateOf l n) b) b ≡ l
+    unfolding nmruLine hits
+    same-line h =
+        let j = lineOf (take k l) b in
+        let y : j < k = ltb-true j k h in
+        let p : lineOf l b ≡ j = omega (arith, line-take k l b (omega (arith, r .high))) in
+        rw h (ap (λ (x : ℕ). set l j x) (sym (line-at l b 0 (omega (arith, r .high))) ∙ ap (λ (i : ℕ). getD l i 0) p) ∙ set-getD l j 0)
+
+    pub nmru-hit : (q : ℕ) → t .hit ≡ true → q ≡ markedBy k n (t .bit) → steppedOf l q true ≡ nmruStep k (stateOf l n) b
+    unfolding nmruStep
+    nmru-hit q h g =
+        let y : hits k l b ≡ true = sym hit-is ∙ h in
+        rw (y, same-line y, bits-are q g)
+
+    pub nmru-miss : (q : ℕ) → t .hit ≡ false → q ≡ markedBy k n (t .bit) → steppedOf (replacedBy l (t .bit) b) q false ≡ nmruStep k (stateOf l n) b
+    unfolding nmruStep
+    nmru-miss q h g =
+        let y : hits k l b ≡ false = sym hit-is ∙ h in
+        rw (y, replaced-set l (t .bit) (nmruLine k (stateOf l n) b) b e bit-is, bits-are q g)

@@ -1,30 +1,56 @@
 -- A step's parts on eight lines by value: which lines stay where they are when a block comes in, the sum that tells a block's line, and a block's set without a division.
-use Prim.Native.Nat.{ℕ, _+_, _-_, _*_, _/_, _%_}
+use Prim.Native.Nat.{ℕ, suc, _+_, _-_, _/_, _%_, _^_, _<_}
+use mathlib.Core.Path.{_≡_}
 use mathlib.Core.Bool.{cond}
 use mathlib.Core.List.{List, [], _∷_}
 use lib.Dec.{eqb, ltb}
 use lib.ListN.{getD}
+use lib.Bits.{bitOr}
+use Rattle.paper.specs.declared.SetState.{SetState}
+use Rattle.paper.specs.declared.Line.{Line}
 use Rattle.paper.specs.declared.Shift.{Shift}
 use Rattle.paper.specs.declared.Sets.{Sets}
 use Rattle.paper.specs.Lists.{table}
-use Rattle.paper.specs.Machines.{none}
+use Rattle.paper.specs.Machines.{none, hits, nmruLine}
 
 -- The lines below n move, those from n on stay: 0 and 65,535.
 unfoldable pub keptFrom : ℕ → List ℕ
 keptFrom n = table (λ i. cond (ltb i n) 0 none) 8
 
--- The sum of w - i over the lines i that hold b. Where b stands in line j alone it is w - j.
+-- A line's weight: 255 less the value of its bit. It fits a byte, and falls from line to line.
+unfoldable pub weightOf : ℕ → ℕ
+weightOf j = 255 - 2 ^ j
+
+-- The sum of the weights of the lines from j on that hold b. Where b stands in one line alone it is that line's.
 unfoldable pub weighed : ℕ → List ℕ → ℕ → ℕ
-weighed w [] b = 0
-weighed w (x ∷ lines) b = cond (eqb x b) w 0 + weighed (w - 1) lines b
+weighed j [] b = 0
+weighed j (x ∷ lines) b = cond (eqb x b) (weightOf j) 0 + weighed (suc j) lines b
 
 -- The lines after the one with weight w stay too.
 unfoldable pub keptAfter : ℕ → List ℕ → List ℕ
-keptAfter w kept = table (λ i. cond (ltb (15 - i) w) none (getD kept i 0)) 8
+keptAfter w kept = table (λ i. cond (ltb (weightOf i) w) none (getD kept i 0)) 8
 
 -- Each line takes what stood in the one before it, or stays.
 unfoldable pub movedBy : List ℕ → List ℕ → ℕ → List ℕ
 movedBy kept lines b = table (λ i. cond (eqb (getD kept i 0) 0) (getD (b ∷ lines) i 0) (getD lines i 0)) 8
+
+-- b comes to the line whose bit has this value.
+unfoldable pub replacedBy : List ℕ → ℕ → ℕ → List ℕ
+replacedBy lines m b = table (λ i. cond (eqb m (2 ^ i)) b (getD lines i 0)) 8
+
+-- m is the value of a bit of the low k.
+pub record Bit (k m : ℕ) : Type 0 where
+  pub at : ℕ
+  pub low : at < k
+  pub is : m ≡ 2 ^ at
+
+-- The bits after an access of the line whose bit has the value m.
+unfoldable pub markedBy : ℕ → ℕ → ℕ → ℕ
+markedBy k bits m = cond (eqb (bitOr bits m % 2 ^ k) (2 ^ k - 1)) m (bitOr bits m)
+
+-- The line that an NMRU access goes to.
+unfoldable pub lineFor : ℕ → SetState → ℕ → Line
+lineFor k s b = record { bit = 2 ^ nmruLine k s b; hit = hits k (s .lines) b }
 
 abbrev pub shiftBy : List ℕ → ℕ → Shift
 shiftBy beyond w = record { beyond = beyond; weight = w; kept = keptAfter w beyond }

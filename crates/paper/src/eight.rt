@@ -1,11 +1,10 @@
 // The eight lines of a set by value: looked through, shifted, or one of them replaced. No branch: each of the eight is chosen by a comparison, so that the compiler can take all of them at once.
 ghost use mathlib.Core.Path.{_≡_};
 ghost use mathlib.Core.Bool.{cond};
-ghost use Prim.Native.Nat.{_<_, _≤_};
+ghost use Prim.Native.Nat.{_≤_};
 ghost use lib.Dec.{eqb, ltb};
-ghost use lib.ListN.{set};
 ghost use Rattle.paper.specs.Machines.{none};
-ghost use Rattle.paper.specs.Shifts.{keptFrom, weighed, keptAfter, movedBy};
+ghost use Rattle.paper.specs.Shifts.{keptFrom, weighed, keptAfter, movedBy, replacedBy};
 
 fn weight_at(x: u16, b: u16, weight: u16) -> u16
     ensures { λ r. ⌜ r ≡ cond (eqb x b) weight 0 ⌝ }
@@ -14,15 +13,17 @@ fn weight_at(x: u16, b: u16, weight: u16) -> u16
     if x == b { weight } else { 0 }
 }
 
-// 15 - j where b stands in line j alone, 0 where it stands in none.
+// 255 less the value of line j's bit where b stands in line j alone, 0 where it stands in none: a sum of eight, which the compiler takes all at once. The weights fit a byte, fall from line to line,
+// and are no powers of two: with 2^j itself it goes from line to line.
 pub fn weight(lines: [u16; 8], b: u16) -> u16
-    ensures { λ r. ⌜ r ≡ weighed 15 lines b ⌝ }
+    ensures { λ r. ⌜ r ≡ weighed 0 lines b ⌝ }
 {
-    let low = weight_at(lines[4], b, 11)
-        + (weight_at(lines[5], b, 10) + (weight_at(lines[6], b, 9) + weight_at(lines[7], b, 8)));
-    weight_at(lines[0], b, 15)
-        + (weight_at(lines[1], b, 14)
-            + (weight_at(lines[2], b, 13) + (weight_at(lines[3], b, 12) + low)))
+    let low = weight_at(lines[4], b, 239)
+        + (weight_at(lines[5], b, 223)
+            + (weight_at(lines[6], b, 191) + weight_at(lines[7], b, 127)));
+    weight_at(lines[0], b, 254)
+        + (weight_at(lines[1], b, 253)
+            + (weight_at(lines[2], b, 251) + (weight_at(lines[3], b, 247) + low)))
 }
 
 // Made by a loop: as a list of eight comparisons it is made anew at each access.
@@ -50,14 +51,14 @@ pub fn kept_after(weight: u16, kept: [u16; 8]) -> [u16; 8]
     ensures { λ r. ⌜ r ≡ keptAfter weight kept ⌝ }
 {
     [
-        kept_at(15, weight, kept[0]),
-        kept_at(14, weight, kept[1]),
-        kept_at(13, weight, kept[2]),
-        kept_at(12, weight, kept[3]),
-        kept_at(11, weight, kept[4]),
-        kept_at(10, weight, kept[5]),
-        kept_at(9, weight, kept[6]),
-        kept_at(8, weight, kept[7]),
+        kept_at(254, weight, kept[0]),
+        kept_at(253, weight, kept[1]),
+        kept_at(251, weight, kept[2]),
+        kept_at(247, weight, kept[3]),
+        kept_at(239, weight, kept[4]),
+        kept_at(223, weight, kept[5]),
+        kept_at(191, weight, kept[6]),
+        kept_at(127, weight, kept[7]),
     ]
 }
 
@@ -83,24 +84,24 @@ pub fn moved(kept: [u16; 8], lines: [u16; 8], b: u16) -> [u16; 8]
     ]
 }
 
-fn replaced_at(i: u16, at: u16, b: u16, here: u16) -> u16
-    ensures { λ r. ⌜ r ≡ cond (eqb at i) b here ⌝ }
+fn replaced_at(own: u16, bit: u16, b: u16, here: u16) -> u16
+    ensures { λ r. ⌜ r ≡ cond (eqb bit own) b here ⌝ }
 {
-    if at == i { b } else { here }
+    if bit == own { b } else { here }
 }
 
-// b comes to line `at`.
-pub fn replaced(lines: [u16; 8], at: u16, b: u16) -> [u16; 8]
-    ensures { λ r. ⌜ r ≡ set lines at b ⌝ }
+// b comes to the line whose bit has this value.
+pub fn replaced(lines: [u16; 8], bit: u16, b: u16) -> [u16; 8]
+    ensures { λ r. ⌜ r ≡ replacedBy lines bit b ⌝ }
 {
     [
-        replaced_at(0, at, b, lines[0]),
-        replaced_at(1, at, b, lines[1]),
-        replaced_at(2, at, b, lines[2]),
-        replaced_at(3, at, b, lines[3]),
-        replaced_at(4, at, b, lines[4]),
-        replaced_at(5, at, b, lines[5]),
-        replaced_at(6, at, b, lines[6]),
-        replaced_at(7, at, b, lines[7]),
+        replaced_at(1, bit, b, lines[0]),
+        replaced_at(2, bit, b, lines[1]),
+        replaced_at(4, bit, b, lines[2]),
+        replaced_at(8, bit, b, lines[3]),
+        replaced_at(16, bit, b, lines[4]),
+        replaced_at(32, bit, b, lines[5]),
+        replaced_at(64, bit, b, lines[6]),
+        replaced_at(128, bit, b, lines[7]),
     ]
 }

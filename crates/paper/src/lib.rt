@@ -48,6 +48,12 @@ pub struct Shift {
     pub kept: [u16; 8],
 }
 
+// The line that an access goes to, by the value of its bit, and whether the block stands there.
+pub struct Line {
+    pub bit: u16,
+    pub hit: bool,
+}
+
 // A number of sets, and what takes the place of a division by it.
 pub struct Sets {
     pub count: u64,

@@ -2,11 +2,12 @@
 ghost use mathlib.Core.Path.{_≡_};
 ghost use mathlib.Core.Logic.{_≢_};
 ghost use Prim.Native.Nat.{_+_, _^_, _<_, _≤_};
-ghost use Rattle.paper.specs.Machines.{none, victim, marked, lruStep, fifoStep, nmruStep};
+ghost use Rattle.paper.specs.Machines.{none, victim, lruStep, fifoStep, nmruStep};
 ghost use Rattle.paper.specs.NextBits.{nextBits};
 ghost use Rattle.paper.specs.Ready.{Ready, steppedOf};
-ghost use Rattle.paper.specs.Shifts.{keptFrom, weighed, shiftBy, shiftAt};
+ghost use Rattle.paper.specs.Shifts.{keptFrom, weighed, shiftBy, shiftAt, Bit, markedBy, lineFor};
 use crate::Block;
+use crate::Line;
 use crate::SetState;
 use crate::Shift;
 use crate::Stepped;
@@ -16,32 +17,31 @@ use crate::eight::moved;
 use crate::eight::replaced;
 use crate::eight::weight;
 
-// "A miss takes the lowest line whose bit is 0": at least one of the low k is.
-fn lowest_clear(bits: u8, k: usize) -> usize
+// "A miss takes the lowest line whose bit is 0": that bit's value. At least one of the low k is.
+fn lowest_clear(bits: u8, k: usize) -> u16
     requires { ⌜ (k ≤ 8) × (bits + 1 < 2 ^ k) ⌝ }
-    ensures { λ r. ⌜ r ≡ victim k bits ⌝ }
-    ensures { λ r. ⌜ r < k ⌝ }
+    ensures { λ r. ⌜ r ≡ 2 ^ victim k bits ⌝ }
 {
-    let p = bits as u32;
-    u32::trailing_zeros(!p) as usize
+    let p = bits as u16;
+    !p & (p + 1)
 }
 
-// "The accessed line's bit becomes 1; if then all k bits are 1, all the others become 0." For eight ways from the table.
-fn mark(bits: u8, k: usize, j: usize, next: &[u8; 2048]) -> u8
-    requires { ⌜ (j < k) × (k ≤ 8) × (bits + 1 < 2 ^ k) ⌝ }
+// "The accessed line's bit becomes 1; if then all k bits are 1, all the others become 0." The line comes by its bit's value. For eight ways from the table.
+fn mark(bits: u8, k: usize, bit: u16, next: &[u8; 2048]) -> u8
+    requires { ⌜ Bit k bit ⌝ }
+    requires { ⌜ (k ≤ 8) × (bits + 1 < 2 ^ k) ⌝ }
     requires { ⌜ now next ≡ nextBits ⌝ }
-    ensures { λ r. ⌜ r ≡ marked k bits j ⌝ }
+    ensures { λ r. ⌜ r ≡ markedBy k bits bit ⌝ }
 {
-    let p = bits as usize;
     if k == 8 {
-        let at = 8 * p + j;
+        let j = u32::trailing_zeros(bit as u32) as usize;
+        let at = 8 * (bits as usize) + j;
         return next[at];
     }
-    let one: usize = 1;
-    let m = one << j;
-    let q = p | m;
-    let full = 255 >> (8 - k);
-    if q == full { m as u8 } else { q as u8 }
+    let p = bits as u16;
+    let q = p | bit;
+    let full: u16 = 255 >> (8 - k);
+    if q == full { bit as u8 } else { q as u8 }
 }
 
 fn stepped(lines: [u16; 8], bits: u8, hit: bool) -> Stepped
@@ -80,7 +80,7 @@ impl SetState {
     // What LRU moves for this block. The last shift is handed on while the blocks come from the same line, as they do in a loop: then a step need not wait for the search.
     pub fn shift(self, k: usize, block: Block, last: Shift) -> Shift
         requires { ⌜ last ≡ shiftAt k (last .weight) ⌝ }
-        ensures { λ r. ⌜ r ≡ shiftAt k (weighed 15 (self .lines) (block .0)) ⌝ }
+        ensures { λ r. ⌜ r ≡ shiftAt k (weighed 0 (self .lines) (block .0)) ⌝ }
     {
         let lines = self.lines;
         let w = weight(lines, block.0);
@@ -94,7 +94,7 @@ impl SetState {
     pub fn lru(self, k: usize, block: Block, shift: Shift) -> Stepped
         requires { ⌜ Ready k (self .lines) ⌝ }
         requires { ⌜ block .0 ≢ none ⌝ }
-        requires { ⌜ shift ≡ shiftAt k (weighed 15 (self .lines) (block .0)) ⌝ }
+        requires { ⌜ shift ≡ shiftAt k (weighed 0 (self .lines) (block .0)) ⌝ }
         ensures { λ r. ⌜ r ≡ lruStep k self (block .0) ⌝ }
     {
         let lines = self.lines;
@@ -115,24 +115,39 @@ impl SetState {
         stepped(moved(beyond, lines, block.0), self.bits, false)
     }
 
-    pub fn nmru(self, k: usize, block: Block, next: &[u8; 2048]) -> Stepped
+    // The line that an NMRU access goes to.
+    pub fn line(self, k: usize, block: Block) -> Line
         requires { ⌜ Ready k (self .lines) ⌝ }
         requires { ⌜ block .0 ≢ none ⌝ }
         requires { ⌜ self .bits + 1 < 2 ^ k ⌝ }
+        ensures { λ r. ⌜ r ≡ lineFor k self (block .0) ⌝ }
+    {
+        let lines = self.lines;
+        let w = weight(lines, block.0);
+        if 0 < w {
+            return Line {
+                bit: 255 - w,
+                hit: true,
+            };
+        }
+        Line {
+            bit: lowest_clear(self.bits, k),
+            hit: false,
+        }
+    }
+
+    pub fn nmru(self, k: usize, block: Block, line: Line, next: &[u8; 2048]) -> Stepped
+        requires { ⌜ Ready k (self .lines) ⌝ }
+        requires { ⌜ self .bits + 1 < 2 ^ k ⌝ }
+        requires { ⌜ line ≡ lineFor k self (block .0) ⌝ }
         requires { ⌜ now next ≡ nextBits ⌝ }
         ensures { λ r. ⌜ r ≡ nmruStep k self (block .0) ⌝ }
     {
         let lines = self.lines;
-        let bits = self.bits;
-        let w = weight(lines, block.0);
-        if 0 < w {
-            return stepped(lines, mark(bits, k, (15 - w) as usize, next), true);
+        let bits = mark(self.bits, k, line.bit, next);
+        if line.hit {
+            return stepped(lines, bits, true);
         }
-        let v = lowest_clear(bits, k);
-        stepped(
-            replaced(lines, v as u16, block.0),
-            mark(bits, k, v, next),
-            false,
-        )
+        stepped(replaced(lines, line.bit, block.0), bits, false)
     }
 }

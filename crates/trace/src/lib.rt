@@ -117,7 +117,8 @@ fn nmru_run(k: usize, sets: u8, blocks: &[u16], marks: &mut [u8]) -> usize
             state = states[at];
             last = at;
         }
-        let t = state.nmru(k, Block(b), &next);
+        let line = state.line(k, Block(b));
+        let t = state.nmru(k, Block(b), line, &next);
         let m = mark_of(t.hit);
         state = t.state;
         marks[i] = m;

@@ -41,20 +41,28 @@ turned c =
     (λ w. stays _ _ _ _ _ _ _ (w .0 .left) (w .1) (w .2) (w .3))
     (c .if1 .came)
 
+line-requires : tie.Need-line-requires Inv-loop μ-loop
+line-requires c κs =
+    let f = c .if1 in
+    let v = c .before .before .before .before .loop in
+    let p = c .before .before .before .before .before .before .before .before .before .before .pre in
+    let g = going-same 2 _ _ _ _ p _ _ _ _ (v .inv .0) (heldApart (f .states) (f .last) (f .state)) (turned c .same) in
+    let r = set-ready 2 _ _ _ _ p _ _ _ _ g (f .state) (f .last) (apart-here _ _ _) in
+    (r, (no-none 2 _ _ _ _ p (v .i) (omega arith), set-bits 2 _ _ _ _ p _ _ _ _ g (f .state) (f .last) (apart-here _ _ _) refl))
+
 nmru-requires : tie.Need-nmru-requires Inv-loop μ-loop
 nmru-requires c κs =
-    let d = c .before in
+    let d = c .before .before in
     let f = d .if1 in
     let v = d .before .before .before .before .loop in
     let p = d .before .before .before .before .before .before .before .before .before .before .pre in
-    let g = going-same 2 _ _ _ _ p _ _ _ _ (v .inv .0) (heldApart (f .states) (f .last) (f .state)) (turned d .same) in (
-      set-ready 2 _ _ _ _ p _ _ _ _ g (f .state) (f .last) (apart-here _ _ _),
-      (no-none 2 _ _ _ _ p (v .i) (omega arith), (set-bits 2 _ _ _ _ p _ _ _ _ g (f .state) (f .last) (apart-here _ _ _) refl, d .before .before .before .before .before .before .next-bits .ensures)),
-    )
+    let g = going-same 2 _ _ _ _ p _ _ _ _ (v .inv .0) (heldApart (f .states) (f .last) (f .state)) (turned d .same) in
+    let r = set-ready 2 _ _ _ _ p _ _ _ _ g (f .state) (f .last) (apart-here _ _ _) in
+    (r, (set-bits 2 _ _ _ _ p _ _ _ _ g (f .state) (f .last) (apart-here _ _ _) refl, (c .before .line .ensures, d .before .before .before .before .before .before .next-bits .ensures)))
 
 loop-again : tie.Need-loop-again Inv-loop μ-loop
 loop-again c =
-    let d = c .before .before .before .before in
+    let d = c .before .before .before .before .before in
     let f = d .if1 in
     let v = d .before .before .before .before .loop in
     let a = d .before .home-in in
@@ -88,6 +96,7 @@ nmru-run-spec =
     (λ c. search needs)
     (λ c. search needs)
     (λ c. search needs)
+    line-requires
     nmru-requires
     (λ c κs. search needs)
     (λ c. search needs)

@@ -1,4 +1,5 @@
 -- `paper::eight::weight` meets its contract.
+use Rattle.paper.specs.Shifts.{weightOf}
 use Rattle.paper.proofs.Lines.{eight-weighed}
 use mathlib.Core.Path.{_≡_}
 use lib.ListN.{length}
@@ -7,6 +8,7 @@ use Rattle.paper.proofs.eight.weight.Statement.{statement}
 use Rattle.paper.proofs.eight.weight.Tie as tie
 
 returns : tie.Need-returns
+unfolding weightOf
 returns c =
     let s = c .before .before .before .before .before .before .before .before in
     let e : length (s .args .t1) ≡ 8 = search needs in

@@ -1,17 +1,12 @@
--- `paper::methods::lowest_clear` meets its contract. Assumes nothing.
+-- `paper::methods::lowest_clear` meets its contract.
 use native.Mathlib.Omega.{arith}
-use Rattle.paper.proofs.Bits.{victim-low}
-use Rattle.paper.proofs.Masks.{victim-zeros}
+use borrow.Author.Needs.{needs}
+use Rattle.paper.proofs.Masks.{victim-bit}
 use Rattle.paper.proofs.methods.lowest_clear.Statement.{statement}
 use Rattle.paper.proofs.methods.lowest_clear.Tie as tie
 
-cast-result : tie.Need-cast-result
-cast-result c = omega (arith, victim-zeros (c .args .k) (c .args .bits) (c .pre .0) (c .pre .1), victim-low (c .args .k) (c .args .bits) (omega arith))
-
 returns : tie.Need-returns
-returns c =
-    let e = victim-zeros (c .args .k) (c .args .bits) (c .pre .0) (c .pre .1) in
-    (e, omega (arith, victim-low (c .args .k) (c .args .bits) (omega arith)))
+returns c = victim-bit 16 (c .args .k) (c .args .bits) (omega arith) (c .pre .1)
 
 pub lowest-clear-spec : {M : Type 1} → statement M
-lowest-clear-spec = tie.close (tie.spec cast-result returns)
+lowest-clear-spec = tie.close (tie.spec (λ c. search needs) returns)
