@@ -1,3 +1,4 @@
 pub mod Going
 pub mod Refusals
 pub mod Held
+pub mod Eights

@@ -1,4 +1,4 @@
--- `trace::bad_access` meets its contract: no access before i has block none. Assumes nothing.
+-- `trace::bad_access` meets its contract: no access before i has block none.
 use Prim.Native.Nat.{_-_}
 use native.Mathlib.Omega.{arith}
 use mathlib.Core.Path.{refl}
@@ -6,7 +6,8 @@ use lib.ListN.{length}
 use borrow.Author.Needs.{needs}
 use borrow.Author.Tests.{eq-eqb, ne-eqb}
 use Rattle.paper.specs.Traces.{badAccess}
-use Rattle.paper.proofs.Least.{Passed, passed-start, passed-more, least-found, least-end}
+use Rattle.paper.proofs.Least.{Passed, passed-more, least-found, least-end}
+use Rattle.trace.proofs.Eights.{clear-passed}
 use Rattle.trace.proofs.bad_access.Statement.{statement}
 use Rattle.trace.proofs.bad_access.Tie as tie
 
@@ -16,17 +17,20 @@ Inv-loop blocks i₀ i = Passed (badAccess blocks) (length blocks) i
 abbrev μ-loop : tie.MeasureT-loop
 μ-loop blocks i₀ i = length blocks - i
 
+loop-holds : tie.Need-loop-holds Inv-loop μ-loop
+loop-holds c = clear-passed _ _ (c .passed-eights .ensures)
+
 returns : tie.Need-returns Inv-loop μ-loop
 unfolding badAccess
 returns c =
-    let l = c .before .before .before .before .args .blocks .now in
-    least-found (badAccess l) (length l) (c .before .before .before .loop .i) _ (c .before .before .before .loop .inv) (omega arith) refl (eq-eqb _ _ (c .if1 .taken))
+    let v = c .before .before .before .loop in
+    least-found _ _ (v .i) _ (v .inv) (omega arith) refl (eq-eqb _ _ (c .if1 .taken))
 
 loop-again : tie.Need-loop-again Inv-loop μ-loop
 unfolding badAccess
 loop-again c =
-    let l = c .before .before .before .before .args .blocks .now in
-    passed-more (badAccess l) (length l) (c .before .before .before .loop .i) _ (c .before .before .before .loop .inv) (omega arith) refl (ne-eqb _ _ (c .if1 .left))
+    let v = c .before .before .before .loop in
+    passed-more _ _ (v .i) _ (v .inv) (omega arith) refl (ne-eqb _ _ (c .if1 .left))
 
 pub bad-access-spec : {M : Type 1} → statement M
 bad-access-spec =
@@ -34,7 +38,8 @@ bad-access-spec =
     (tie.spec
     Inv-loop
     μ-loop
-    (λ c. passed-start _ _)
+    (λ c κs. search needs)
+    loop-holds
     (λ c. search needs)
     (λ c. search needs)
     returns

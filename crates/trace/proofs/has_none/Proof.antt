@@ -1,0 +1,41 @@
+-- `trace::has_none` meets its contract.
+use native.Mathlib.Nat.{add-zero}
+use borrow.Author.Needs.{needs}
+use Rattle.paper.specs.Lists.{table}
+use Rattle.paper.specs.Traces.{badAccess}
+use Rattle.trace.specs.Runs.{someOf}
+use Rattle.trace.proofs.has_none.Statement.{statement}
+use Rattle.trace.proofs.has_none.Tie as tie
+
+returns : tie.Need-returns
+unfolding someOf table badAccess
+returns c = rw (add-zero (c .before .before .before .before .before .before .before .before .args .i))
+
+pub has-none-spec : {M : Type 1} → statement M
+has-none-spec =
+    tie.close
+    (tie.spec
+    (λ c. search needs)
+    (λ c. search needs)
+    (λ c. search needs)
+    (λ c. search needs)
+    (λ c. search needs)
+    (λ c. search needs)
+    (λ c. search needs)
+    (λ c. search needs)
+    (λ c. search needs)
+    (λ c. search needs)
+    (λ c. search needs)
+    (λ c. search needs)
+    (λ c. search needs)
+    (λ c. search needs)
+    (λ c. search needs)
+    (λ c. search needs)
+    (λ c. search needs)
+    (λ c. search needs)
+    (λ c. search needs)
+    (λ c. search needs)
+    (λ c. search needs)
+    (λ c. search needs)
+    (λ c. search needs)
+    returns)
