@@ -16,7 +16,7 @@ use Rattle.layout.specs.declared.Layout.{Layout}
 use Rattle.layout.specs.declared.Layout.the-variants as Layouts
 use Rattle.layout.proofs.Laws.{read-rules, refused-rules, read-trailer}
 use Rattle.bolgverk.specs.Promises.{CheckPromise}
-use Rattle.judge.specs.Judged.{written, Judged}
+use Rattle.ruling.specs.Ruled.{written, Ruled}
 use Rattle.bolgverk.proofs.Kept.{check-kept}
 
 module _ (f lent : List ℕ) where
@@ -40,8 +40,8 @@ module _ (f lent : List ℕ) where
       same-after Accepted = ap (λ (s : Trailer). written f s lent Accepted) same
       same-after (Refused r) = refl
 
-      pub judged-check : (r : Verdict) (after : List ℕ) → Judged f t lent r after → CheckPromise f lent r after
-      judged-check r after j =
+      pub ruled-check : (r : Verdict) (after : List ℕ) → Ruled f t lent r after → CheckPromise f lent r after
+      ruled-check r after j =
           check-kept f lent r after
           (enough r
           (j .answer ∙ ap (λ (s : Trailer). graphRules (caseOf f s) (factRules f s Accepted)) same ∙ sym (read-rules f t (sym a ∙ e) _)))

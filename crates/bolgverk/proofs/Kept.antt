@@ -1,4 +1,4 @@
--- Demands 1 and 2 give demand 3: whoever has the verdict and the lent list has the whole promise. Assumes nothing.
+-- Demands 1 and 2 give demand 3: whoever has the verdict and the lent list has the whole promise.
 use Prim.Native.Nat.{ℕ}
 use mathlib.Core.Path.{_≡_, sym, _∙_, ap, subst}
 use mathlib.Core.List.{List, _++_}

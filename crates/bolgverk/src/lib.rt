@@ -47,7 +47,7 @@ pub fn check(file: &[u8], bounds: &mut [u64]) -> Verdict
     }
     let read = layout::layout_of(file);
     match read {
-        Layout::Read(t) => judge::judge(file, t, bounds),
+        Layout::Read(t) => ruling::rule_on(file, t, bounds),
         Layout::Refused(r) => Verdict::Refused(r),
     }
 }

@@ -9,15 +9,15 @@ use Rattle.paper.specs.declared.Trailer.{Trailer}
 use Rattle.paper.specs.Bounds.{factsFrom, covers}
 use Rattle.paper.specs.Files.{endAt, factAt, factEnd, factPlace, caseOf}
 use Rattle.paper.proofs.Meaning.{SoundHead}
-use Rattle.charge.specs.Ready.{Ready}
+use Rattle.charge.specs.ReadyFile.{Ready}
 use Rattle.charge.specs.Chained.{Limits, Lowered, Covered}
 use Rattle.charge.specs.Sizes as Sizes
 use Rattle.charge.specs.Tables.{plus, placeOf, Open, FactsAdded, Part, costOf}
 use Rattle.charge.specs.declared.facts.Cost.{Cost}
 use Rattle.charge.proofs.Cover.{covered-more, covered-limits}
-use Rattle.charge.proofs.Parts.{part-fact}
+use Rattle.charge.proofs.PartLaws.{part-fact}
 use Rattle.charge.proofs.Small.{set-low, fact-head, fact-small}
-use Rattle.charge.proofs.Sums.{at-end}
+use Rattle.charge.proofs.SmallSums.{at-end}
 use Rattle.charge.proofs.Tallies.{grouped-more, grouped-open}
 
 -- a loop over the facts is at fact i, which stands at p

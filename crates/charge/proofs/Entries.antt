@@ -21,7 +21,7 @@ use Rattle.paper.proofs.Says.{says-true, says-false, says-same}
 use Rattle.paper.proofs.GraphLaws.{inside-says, around-says}
 use Rattle.paper.specs.Ceilings.{mostCount}
 use Rattle.charge.specs.NextOut.{nextOut, Outers}
-use Rattle.charge.specs.Ready.{Ready}
+use Rattle.charge.specs.ReadyFile.{Ready}
 use Rattle.charge.proofs.Last.{last-low, last-is, last-none}
 
 product-one : (F : ℕ → ℕ) (n : ℕ) → ((j : ℕ) → j < n → F j ≡ 1) → productTo F n ≡ 1

@@ -20,7 +20,7 @@ use Rattle.formulas.specs.Largest.{largestVisits}
 use Rattle.charge.specs.Chained.{bucket, lastIn, Limits, Lowered}
 use Rattle.charge.specs.Sizes as Sizes
 use Rattle.charge.proofs.Buckets.{chain-low, chain-is, chain-none}
-use Rattle.charge.proofs.Sums.{sum-none, sum-rest}
+use Rattle.charge.proofs.SmallSums.{sum-none, sum-rest}
 
 module _ (e : Case) (s : Loop) (b : ℕ) where
   -- what is not of b's bucket does not fetch b

@@ -12,7 +12,7 @@ use Rattle.paper.specs.Lists.{sumTo}
 use Rattle.paper.proofs.Says.{says-le, says-eq, says-not, says-and, says-same}
 use Rattle.charge.specs.Sizes as Sizes
 use Rattle.charge.specs.Tables.{Tallied, placeOf}
-use Rattle.charge.proofs.Sums.{sum-same, sum-both, sum-none}
+use Rattle.charge.proofs.SmallSums.{sum-same, sum-both, sum-none}
 
 -- a place tells the set and the limit
 place-is : (s x q l : ℕ) → x < Sizes.limits → l < Sizes.limits → eqb (placeOf s x) (placeOf q l) ≡ (eqb s q && eqb x l)

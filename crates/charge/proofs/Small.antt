@@ -18,7 +18,7 @@ use Rattle.formulas.specs.Largest.{largestVisits, largestBound, largestEntered,
 use Rattle.charge.specs.Sizes as Sizes
 use Rattle.charge.specs.Tables.{weight, FactsAdded, NodesAdded}
 use Rattle.charge.proofs.Entries.{entries-low}
-use Rattle.charge.proofs.Sums.{sum-low, cond-low}
+use Rattle.charge.proofs.SmallSums.{sum-low, cond-low}
 use Rattle.charge.proofs.Tallies.{sets-low, limits-low}
 
 bound-low : (p k l E N a : ℕ) → E + N ≤ a → boundOf p k l E N ≤ a

@@ -13,7 +13,7 @@ use Rattle.paper.specs.Lists.{sumTo}
 use Rattle.formulas.specs.Largest.{largestBound}
 use Rattle.charge.specs.Sizes as Sizes
 use Rattle.charge.specs.Tables.{Tallied, plus, placeOf, Grouped, Open}
-use Rattle.charge.proofs.Sums.{sum-low, cond-low}
+use Rattle.charge.proofs.SmallSums.{sum-low, cond-low}
 
 module _ (key amount : ℕ → ℕ) where
   tallied-start : (m : ℕ) → Tallied key amount 0 (replicate m 0)

@@ -9,12 +9,12 @@ use lib.ListN.{getD}
 use Rattle.paper.specs.declared.Trailer.{Trailer}
 use Rattle.paper.specs.Machines.{none}
 use Rattle.paper.specs.Files.{nodeAt, caseOf}
-use Rattle.charge.specs.Ready.{Ready}
+use Rattle.charge.specs.ReadyFile.{Ready}
 use Rattle.charge.specs.Chained.{Covered}
 use Rattle.charge.specs.Tables.{plus, placeOf, Open, weight, NodesAdded}
 use Rattle.charge.proofs.Cover.{lowest-high}
 use Rattle.charge.proofs.Small.{set-low, weight-small}
-use Rattle.charge.proofs.Sums.{at-end}
+use Rattle.charge.proofs.SmallSums.{at-end}
 use Rattle.charge.proofs.Tallies.{grouped-more, grouped-open}
 
 -- a loop over the nodes is at node v

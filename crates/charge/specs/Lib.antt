@@ -1,7 +1,7 @@
 pub mod Chained
 pub mod NextOut
 pub mod Placed
-pub mod Ready
+pub mod ReadyFile
 pub mod Sizes
 pub mod Summed
 pub mod Tables

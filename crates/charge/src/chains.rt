@@ -8,7 +8,7 @@ ghost use Rattle.paper.specs.Files as Files;
 ghost use Rattle.paper.specs.Known.{Laid};
 ghost use Rattle.formulas.specs.Largest as Largest;
 ghost use Rattle.charge.specs.Chained as Chained;
-ghost use Rattle.charge.specs.Ready.{Ready};
+ghost use Rattle.charge.specs.ReadyFile.{Ready};
 ghost use Rattle.charge.specs.Sizes as Sizes;
 use crate::amounts;
 use crate::heads::Head;

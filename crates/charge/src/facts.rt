@@ -6,7 +6,7 @@ ghost use Rattle.paper.specs.Files as Files;
 ghost use Rattle.paper.proofs.Meaning.{SoundHead};
 ghost use Rattle.charge.specs.Chained as Chained;
 ghost use Rattle.charge.specs.NextOut as NextOut;
-ghost use Rattle.charge.specs.Ready.{Ready};
+ghost use Rattle.charge.specs.ReadyFile.{Ready};
 ghost use Rattle.charge.specs.Tables as Tables;
 use crate::amounts;
 use crate::chains;

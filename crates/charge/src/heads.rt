@@ -3,7 +3,7 @@ ghost use mathlib.Core.Path.{_≡_};
 ghost use Prim.Native.Nat.{_≤_};
 ghost use Rattle.paper.specs.Files as Files;
 ghost use Rattle.paper.proofs.Meaning.{SoundHead};
-ghost use Rattle.charge.specs.Ready.{Ready};
+ghost use Rattle.charge.specs.ReadyFile.{Ready};
 ghost use Rattle.charge.specs.Tables as Tables;
 use paper::Loop;
 use paper::Trailer;

@@ -1,7 +1,7 @@
 // The pass over the nodes.
 ghost use Rattle.paper.specs.Files as Files;
 ghost use Rattle.charge.specs.Chained as Chained;
-ghost use Rattle.charge.specs.Ready.{Ready};
+ghost use Rattle.charge.specs.ReadyFile.{Ready};
 ghost use Rattle.charge.specs.Tables as Tables;
 use crate::amounts;
 use crate::sizes::NODES;

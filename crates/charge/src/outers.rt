@@ -8,7 +8,7 @@ ghost use Rattle.paper.proofs.Meaning.{SoundGraph};
 ghost use Rattle.paper.specs.Known.{Laid};
 ghost use Rattle.paper.specs.Ceilings as Ceilings;
 ghost use Rattle.charge.specs.NextOut as NextOut;
-ghost use Rattle.charge.specs.Ready.{Ready};
+ghost use Rattle.charge.specs.ReadyFile.{Ready};
 use crate::sizes::LOOPS;
 use paper::Trailer;
 

@@ -1,4 +1,8 @@
-pub mod Told
-pub mod Heads
-pub mod Bodies
-pub mod Walk
+pub mod Climbs
+pub mod Scopes
+pub mod Slots
+pub mod Sets
+pub mod OneRow
+pub mod OneEdge
+pub mod OneStep
+pub mod Halves

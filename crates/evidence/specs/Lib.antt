@@ -1,1 +1,3 @@
-pub mod Turns
+pub mod Stands
+pub mod Edges
+pub mod RowParts

@@ -1,163 +1,116 @@
-// Rules 11 to 19: the facts judged in turn, and what is left after the last.
+// One fact and its evidence: rules 14 and 16 to 18. Nodes, edges and rows are read straight from the file.
 ghost use mathlib.Core.Path.{_≡_};
-ghost use Prim.Native.Nat.{_+_, _≤_};
-ghost use lib.Dec.{ltb};
+ghost use Prim.Native.Nat.{_<_, _≤_};
+ghost use Rattle.paper.specs.Lists.{some};
+ghost use Rattle.paper.specs.Ceilings.{mostNodes};
+ghost use Rattle.paper.specs.Files as Files;
 ghost use Rattle.paper.specs.Facts as Facts;
-ghost use Rattle.paper.specs.Files.{endAt, headEnd, caseOf};
-ghost use Rattle.paper.specs.Known.{Laid, Shaped};
+ghost use Rattle.paper.specs.Cases as Cases;
 ghost use Rattle.paper.specs.Verdicts as Verdicts;
-ghost use Rattle.fact.specs.Stands.{Stands};
-ghost use Rattle.evidence.specs.Turns.{namesAt, Told};
-use fact::Head;
-use layout::HEAD_SIZE;
-use paper::Previous;
-use paper::Refusal;
+ghost use Rattle.paper.specs.Known.{Laid, Shaped};
+ghost use Rattle.evidence.specs.Stands.{factOf, nodesOf, Stands, Whole};
+
+mod rows;
+mod steps;
+
 use paper::Trailer;
 use paper::Verdict;
+pub use rows::bad_rows;
+use rows::row_at;
+pub use steps::bad_steps;
 
-// "A fact names a scope …, a block b and an age limit l", as they stand in the file.
-pub struct Names {
-    pub scope: u16,
+// The fact at hand: where it stands, its scope's first and last node, its block b, its limit, and b's set.
+pub struct Head {
+    pub place: usize,
+    pub first: u16,
+    pub last: u16,
     pub block: u16,
     pub limit: u16,
+    pub home: u16,
 }
 
-// A fact that passes its turn: what it is to the next one, and where it ends.
-pub struct Kept {
-    pub previous: Previous,
-    pub end: usize,
+pub fn nodes_of(h: Head) -> u16
+    requires { ⌜ h .first ≤ h .last ⌝ }
+    requires { ⌜ h .last < mostNodes ⌝ }
+    ensures { λ r. ⌜ r ≡ nodesOf h ⌝ }
+    ensures { λ r. ⌜ r ≤ mostNodes ⌝ }
+{
+    h.last + 1 - h.first
 }
 
-pub enum Turn {
-    Kept(Kept),
-    Refused(Refusal),
-}
-
-// From p on, fewer than n bytes are left before the trailer.
-pub fn short_of(file: &[u8], t: Trailer, p: usize, n: usize) -> bool
+fn fetches(file: &[u8], t: Trailer, h: Head, j: u16) -> bool
     requires { ⌜ Laid (now file) t ⌝ }
-    requires { ⌜ p ≤ endAt (now file) ⌝ }
-    ensures { λ r. ⌜ r ≡ ltb (endAt (now (file .entry))) (p + n) ⌝ }
-{
-    layout::end_of(file) - p < n
-}
-
-pub fn names_at(file: &[u8], t: Trailer, p: usize) -> Names
-    requires { ⌜ Laid (now file) t ⌝ }
-    requires { ⌜ headEnd p ≤ endAt (now file) ⌝ }
-    ensures { λ r. ⌜ r ≡ namesAt (now (file .entry)) p ⌝ }
-{
-    Names {
-        scope: layout::scope_at(file, p),
-        block: layout::block_at(file, p),
-        limit: layout::limit_at(file, p),
-    }
-}
-
-// 12: "its loop number, block or l out of range"
-pub fn wrong_head(t: Trailer, w: u16, b: u16, l: u16) -> bool
-    ensures { λ r. ⌜ r ≡ Facts.wrongHead (t .loops) (t .ways) w b l ⌝ }
-{
-    ((t.loops <= w) & (w != 65535)) | ((b == 65535) | ((l < 1) | ((t.ways as u16) < l)))
-}
-
-// 13: "block below the previous fact's, or equal and its scope starts at or before the previous scope's last node"
-pub fn wrong_order(previous: Previous, b: u16, first: u16) -> bool
-    ensures { λ r. ⌜ r ≡ Facts.wrongOrder previous b first ⌝ }
-{
-    previous.any & ((b < previous.block) | ((b == previous.block) & (first <= previous.last)))
-}
-
-// 14 to 18, for fact i, which is the one at hand and whose head is there.
-fn weigh(file: &[u8], t: Trailer, i: u16, h: Head) -> Turn
-    requires { ⌜ Laid (now file) t ⌝ }
-    requires { ⌜ Shaped (caseOf (now file) t) ⌝ }
     requires { ⌜ Stands (now file) t h ⌝ }
-    requires { ⌜ headEnd (h .place) ≤ endAt (now file) ⌝ }
-    ensures { λ r. ⌜ Told (now (file .entry)) t (h .place) (Verdicts.bodyRules (now (file .entry)) t i (h .place)) r ⌝ }
+    requires { ⌜ j < nodesOf h ⌝ }
+    ensures { λ r. ⌜ r ≡ Cases.fetches (Files.caseOf (now (file .entry)) t) (factOf (now (file .entry)) h) j ⌝ }
 {
-    if fact::unfetched(file, t, h) {
-        return Turn::Refused(paper::refuse(14, i as usize));
-    }
-    let begin = h.place + HEAD_SIZE;
-    let rows = layout::rows_size(fact::nodes_of(h));
-    if short_of(file, t, begin, rows) {
-        return Turn::Refused(paper::refuse(15, i as usize));
-    }
-    let evidence = fact::evidence_rules(file, t, i, h);
-    match evidence {
-        Verdict::Accepted => Turn::Kept(Kept {
-            previous: Previous {
-                any: true,
-                block: h.block,
-                last: h.last,
-            },
-            end: begin + rows,
-        }),
-        Verdict::Refused(r) => Turn::Refused(r),
-    }
+    layout::node_at(file, t, h.first + j) == h.block
 }
 
-// The turn of fact i, which stands at p, after the previous one.
-pub fn turn_of(file: &[u8], t: Trailer, i: u16, previous: Previous, p: usize) -> Turn
+// 14: "no node of the scope fetches b"
+pub fn unfetched(file: &[u8], t: Trailer, h: Head) -> bool
     requires { ⌜ Laid (now file) t ⌝ }
-    requires { ⌜ Shaped (caseOf (now file) t) ⌝ }
-    requires { ⌜ p ≤ endAt (now file) ⌝ }
-    ensures { λ r. ⌜ Told (now (file .entry)) t p (Verdicts.turnRules (now (file .entry)) t i previous p) r ⌝ }
+    requires { ⌜ Stands (now file) t h ⌝ }
+    ensures { λ r. ⌜ r ≡ Facts.unfetched (Files.caseOf (now (file .entry)) t) (factOf (now (file .entry)) h) ⌝ }
 {
-    if short_of(file, t, p, HEAD_SIZE) {
-        return Turn::Refused(paper::refuse(11, i as usize));
-    }
-    let n = names_at(file, t, p);
-    if wrong_head(t, n.scope, n.block, n.limit) {
-        return Turn::Refused(paper::refuse(12, i as usize));
-    }
-    let scope = layout::range_at(file, t, n.scope);
-    if wrong_order(previous, n.block, scope.first) {
-        return Turn::Refused(paper::refuse(13, i as usize));
-    }
-    let home = paper::home(n.block, t.sets);
-    weigh(
-        file,
-        t,
-        i,
-        Head {
-            place: p,
-            first: scope.first,
-            last: scope.last,
-            block: n.block,
-            limit: n.limit,
-            home: home,
-        },
-    )
-}
-
-// "then for each fact in turn 11 to 18; then 19"
-pub fn fact_rules(file: &[u8], t: Trailer) -> Verdict
-    requires { ⌜ Laid (now file) t ⌝ }
-    requires { ⌜ Shaped (caseOf (now file) t) ⌝ }
-    ensures { λ r. ⌜ r ≡ Verdicts.factRules (now (file .entry)) t Verdict.Accepted ⌝ }
-{
-    let mut p: usize = layout::facts_at(t);
-    let mut previous = Previous {
-        any: false,
-        block: 0,
-        last: 0,
-    };
-    let mut i: u16 = 0;
-    while i < t.facts {
-        let r = turn_of(file, t, i, previous, p);
-        match r {
-            Turn::Refused(x) => return Verdict::Refused(x),
-            Turn::Kept(k) => {
-                previous = k.previous;
-                p = k.end;
-                i += 1;
-            }
+    let n = nodes_of(h);
+    let mut j: u16 = 0;
+    while j < n {
+        if fetches(file, t, h, j) {
+            return false;
         }
+        j += 1;
     }
-    if p < layout::end_of(file) {
-        return Verdict::Refused(paper::refuse(19, 0));
+    true
+}
+
+fn bad_many(file: &[u8], t: Trailer, h: Head, j: u16) -> bool
+    requires { ⌜ Laid (now file) t ⌝ }
+    requires { ⌜ Stands (now file) t h ⌝ }
+    requires { ⌜ Whole (now file) h ⌝ }
+    requires { ⌜ j < nodesOf h ⌝ }
+    ensures { λ r. ⌜ r ≡ Facts.badManyAt (Files.caseOf (now (file .entry)) t) (factOf (now (file .entry)) h) j ⌝ }
+{
+    if fetches(file, t, h, j) {
+        return layout::number_at(file, row_at(file, h, j)) == 8;
+    }
+    false
+}
+
+// 18: "a node that fetches b has row 8"
+pub fn bad_manys(file: &[u8], t: Trailer, h: Head) -> bool
+    requires { ⌜ Laid (now file) t ⌝ }
+    requires { ⌜ Stands (now file) t h ⌝ }
+    requires { ⌜ Whole (now file) h ⌝ }
+    ensures { λ r. ⌜ r ≡ some (Facts.badManyAt (Files.caseOf (now (file .entry)) t) (factOf (now (file .entry)) h)) (nodesOf h) ⌝ }
+{
+    let n = nodes_of(h);
+    let mut j: u16 = 0;
+    while j < n {
+        if bad_many(file, t, h, j) {
+            return true;
+        }
+        j += 1;
+    }
+    false
+}
+
+// 16 to 18, the evidence of fact i.
+pub fn evidence_rules(file: &[u8], t: Trailer, i: u16, h: Head) -> Verdict
+    requires { ⌜ Laid (now file) t ⌝ }
+    requires { ⌜ Shaped (Files.caseOf (now file) t) ⌝ }
+    requires { ⌜ Stands (now file) t h ⌝ }
+    requires { ⌜ Whole (now file) h ⌝ }
+    ensures { λ r. ⌜ r ≡ Verdicts.evidenceRules (Files.caseOf (now (file .entry)) t) i (factOf (now (file .entry)) h) Verdict.Accepted ⌝ }
+{
+    if bad_rows(file, t, h) {
+        return Verdict::Refused(paper::refuse(16, i as usize));
+    }
+    if bad_steps(file, t, h) {
+        return Verdict::Refused(paper::refuse(17, i as usize));
+    }
+    if bad_manys(file, t, h) {
+        return Verdict::Refused(paper::refuse(18, i as usize));
     }
     Verdict::Accepted
 }

@@ -1,3 +1,3 @@
-pub mod Filled
+pub mod FilledLists
 pub mod Bytes
 pub mod Answering

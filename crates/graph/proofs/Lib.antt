@@ -1,5 +1,5 @@
 pub mod Filling
 pub mod Marking
 pub mod Entering
-pub mod Counting
-pub mod Chained
+pub mod CountMarks
+pub mod GraphChains

@@ -1,4 +1,4 @@
--- A table that holds each node's count: "the product of B over all loops that contain it". Assumes nothing.
+-- A table that holds each node's count: "the product of B over all loops that contain it".
 use Prim.Native.Nat.{ℕ, _≤_, _<_}
 use mathlib.Core.Path.{_≡_}
 use mathlib.Core.List.{List}

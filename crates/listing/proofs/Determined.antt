@@ -1,4 +1,4 @@
--- Two outcomes that the promise allows coincide. Assumes nothing.
+-- Two outcomes that the promise allows coincide.
 use Prim.Native.Nat.{ℕ}
 use mathlib.Core.Path.{_≡_, sym, _∙_, ap}
 use mathlib.Core.List.{List, _++_}

@@ -1,4 +1,4 @@
-pub mod Lengths
+pub mod LongestListing
 pub mod Numbered
-pub mod Texts
+pub mod ListingTexts
 pub mod Determined

@@ -1,4 +1,4 @@
--- Lines that come one after another: the next of them, and lines with the same numbers. Assumes nothing.
+-- Lines that come one after another: the next of them, and lines with the same numbers.
 use Prim.Native.Nat.{ℕ, zero, suc, _+_, _-_, _≤_, _<_}
 use native.Mathlib.Omega.{arith}
 use native.Mathlib.Numerals.{add-one}

@@ -1,4 +1,4 @@
--- What `listing` promises: a text at the start of the lent bytes; and the lines of 321 numbers. Assumes nothing.
+-- What `listing` promises: a text at the start of the lent bytes; and the lines of 321 numbers.
 use Prim.Native.Nat.{ℕ, _+_, _≤_}
 use mathlib.Core.Path.{_≡_}
 use mathlib.Core.List.{List, _++_}

@@ -5,7 +5,7 @@
 --     closes       a walk, taken to the function's statement
 --     calls-fn     a call: what is left is what the callee's result owns, the tokens, and what the callee ensures
 --     reads-elem, shuts-elem       element i of a `&[S]`, S a declared struct that is Copy: a share of its cell, and back
--- Each takes the logic's rules as a parameter, `Given`. Assumes nothing.
+-- Each takes the logic's rules as a parameter, `Given`.
 use Prim.Native.Nat.{ℕ, _<_}
 use mathlib.Core.List.{List, [], _∷_}
 use lib.ListN.{length, getD}

@@ -1,4 +1,4 @@
--- The laws of the loop that reads the file's loops into records, and of counts over these. Assumes nothing.
+-- The laws of the loop that reads the file's loops into records, and of counts over these.
 use Prim.Native.Nat.{ℕ, suc, _+_, _≤_, _<_}
 use native.Mathlib.Omega.{arith}
 use native.Mathlib.Decide.{ℕ-discrete}

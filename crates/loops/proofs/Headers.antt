@@ -1,4 +1,4 @@
--- Where headers rise and two loops are nested or apart, all nodes of a loop have one count over the loops up to it. Assumes nothing.
+-- Where headers rise and two loops are nested or apart, all nodes of a loop have one count over the loops up to it.
 use Prim.Native.Nat.{ℕ, suc, _≤_, _<_}
 use native.Mathlib.Omega.{arith}
 use native.Mathlib.Nat.{mul-one}

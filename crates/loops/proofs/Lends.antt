@@ -1,7 +1,7 @@
 -- A local array whose elements are R is lent for κ: its first k elements, as a `&κ [R]`. When κ is dead, what was lent and the rest are room for the array again.
 --     lends-front      the array's cell, and what it owns, give the slice, the lender's way back, and the other elements
 --     comes-home       κ is dead: the way back and the other elements are room for the array
--- R has one MIR type (`Single`, answered by `tt`). Each takes the logic's rules as a parameter, `Given`. Assumes nothing.
+-- R has one MIR type (`Single`, answered by `tt`). Each takes the logic's rules as a parameter, `Given`.
 use mathlib.Core.Path.{_≡_, refl, sym}
 use Prim.Native.Nat.{ℕ, zero}
 use mathlib.Core.List.{List, [], _∷_, _++_}

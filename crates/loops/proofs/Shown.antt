@@ -1,4 +1,4 @@
--- The laws of a count as 32 bits show it, and of counts over lists of records. Assumes nothing.
+-- The laws of a count as 32 bits show it, and of counts over lists of records.
 use Prim.Native.Nat.{ℕ, zero, suc, _+_, _*_, _≤_, _<_}
 use native.Mathlib.Omega.{arith}
 use native.Mathlib.Nat.{mul-zero, zero-mul, le-mul-of-pos-right}

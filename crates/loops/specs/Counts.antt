@@ -1,4 +1,4 @@
--- "Count of a node: the product of B over all loops that contain it", loop by loop. Assumes nothing.
+-- "Count of a node: the product of B over all loops that contain it", loop by loop.
 use Prim.Native.Nat.{ℕ}
 use mathlib.Core.Bool.{cond}
 use mathlib.Core.List.{List}

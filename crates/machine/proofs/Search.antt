@@ -1,4 +1,4 @@
--- A loop that looks through the lines from line i on, for the tests of a legal state. Assumes nothing.
+-- A loop that looks through the lines from line i on, for the tests of a legal state.
 use Prim.Native.Nat.{ℕ, suc, _<_, _≤_}
 use mathlib.Core.Path.{_≡_}
 use mathlib.Core.Bool.{true, false}

@@ -1,4 +1,4 @@
--- The bits of a set, line by line: the line that NMRU takes at a miss, and the bits after an access. Assumes nothing.
+-- The bits of a set, line by line: the line that NMRU takes at a miss, and the bits after an access.
 use Prim.Native.Nat.{ℕ, zero, suc, _+_, _-_, _/_, _%_, _^_, _<_, _≤_}
 use mathlib.Core.Path.{_≡_, refl, ap, sym, _∙_}
 use mathlib.Core.Logic.{_≢_}

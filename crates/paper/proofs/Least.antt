@@ -1,4 +1,4 @@
--- The laws of `least` and `some`, and of a loop that looks for the least place. Assumes nothing.
+-- The laws of `least` and `some`, and of a loop that looks for the least place.
 use Prim.Native.Nat.{ℕ, zero, suc, _+_, _-_, _≤_, _<_}
 use native.Mathlib.Omega.{arith}
 use native.Mathlib.Numerals.{add-one}

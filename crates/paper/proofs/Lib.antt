@@ -1,7 +1,7 @@
 pub mod Least
 pub mod Says
 pub mod Sums
-pub mod Tables
+pub mod TableLaws
 pub mod Bits
 pub mod States
 pub mod Meaning
@@ -14,9 +14,9 @@ pub mod VerdictLaws
 pub mod FileLaws
 pub mod TestLaws
 pub mod Numbers
-pub mod Lines
+pub mod LineLaws
 pub mod Masks
-pub mod Moves
+pub mod MoveLaws
 pub mod StepLaws
 pub mod Parts
 pub mod Sections

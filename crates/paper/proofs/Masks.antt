@@ -1,4 +1,4 @@
--- Laws of the bits: the lowest that is 0, and the mark of an access by shift and mask and by the table. Assumes nothing.
+-- Laws of the bits: the lowest that is 0, and the mark of an access by shift and mask and by the table.
 use Prim.Native.Nat.{ℕ, zero, suc, _+_, _-_, _*_, _/_, _%_, _^_, _<_, _≤_, min}
 use native.Mathlib.Nat.{pow-suc, mod-eq-of-lt, not-suc-le-zero, le-of-suc-le-suc}
 use native.Mathlib.Decide.{ℕ-discrete, decLt}
@@ -13,7 +13,7 @@ use borrow.Author.Tests.{eq-eqb, ne-eqb}
 use Rattle.paper.specs.Machines.{bitAt, victim, marked}
 use Rattle.paper.specs.NextBits.{nextBits}
 use Rattle.paper.specs.Shifts.{Bit, markedBy}
-use Rattle.paper.proofs.Tables.{getD-table}
+use Rattle.paper.proofs.TableLaws.{getD-table}
 use Rattle.paper.proofs.Least.{least-is}
 use Rattle.paper.proofs.Bits.{bit-zero, bit-suc, all-ones}
 

@@ -1,4 +1,4 @@
--- What the tests of the rules say, as propositions: of the graph, of a row, of an edge, of a fact, of a case. The theory speaks of these alone. Assumes nothing.
+-- What the tests of the rules say, as propositions: of the graph, of a row, of an edge, of a fact, of a case. The theory speaks of these alone.
 use Prim.Native.Nat.{ℕ, suc, _≤_, _<_}
 use mathlib.Core.Path.{_≡_}
 use mathlib.Core.Logic.{_≢_}

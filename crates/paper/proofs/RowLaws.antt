@@ -1,4 +1,4 @@
--- What the tests of the rules 12, 14 and 16 to 18 say, both ways. Assumes nothing.
+-- What the tests of the rules 12, 14 and 16 to 18 say, both ways.
 use Prim.Native.Nat.{ℕ, zero, suc, _+_, _-_, _%_, _≤_, _<_}
 use native.Mathlib.Omega.{arith}
 use native.Mathlib.Decide.{decLt}

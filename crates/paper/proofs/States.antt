@@ -1,4 +1,4 @@
--- What the tests on a set's state say: offered, hits, legal. A line past the last counts as empty. Assumes nothing.
+-- What the tests on a set's state say: offered, hits, legal. A line past the last counts as empty.
 use Prim.Native.Nat.{ℕ, zero, suc, _+_, _-_, _^_, _<_, _≤_}
 use mathlib.Core.Path.{_≡_, refl, sym, _∙_}
 use mathlib.Core.Logic.{_≢_}

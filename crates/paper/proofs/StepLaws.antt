@@ -1,4 +1,4 @@
--- "Step: 3, 22, 21.": the answer of a single step, one law for each way that it ends. Assumes nothing.
+-- "Step: 3, 22, 21.": the answer of a single step, one law for each way that it ends.
 use Prim.Native.Nat.{ℕ}
 use mathlib.Core.Path.{_≡_}
 use mathlib.Core.Logic.{_≢_}

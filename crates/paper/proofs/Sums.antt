@@ -1,4 +1,4 @@
--- The laws of a loop that adds, of one that takes the least, and of products that agree. Assumes nothing.
+-- The laws of a loop that adds, of one that takes the least, and of products that agree.
 use Prim.Native.Nat.{ℕ, zero, suc, _+_, _*_, _≤_, _<_, min}
 use native.Mathlib.Omega.{arith}
 use native.Mathlib.Numerals.{add-one}

@@ -1,4 +1,4 @@
--- The paper's decimal is the kit's: the fewest digits that hold the number, the most significant first. Assumes nothing.
+-- The paper's decimal is the kit's: the fewest digits that hold the number, the most significant first.
 use Prim.Native.Nat.{ℕ, zero, suc, _*_, _/_, _%_, _^_, _≤_, _<_}
 use native.Mathlib.Omega.{arith}
 use native.Mathlib.Numerals.{unary-clauses}

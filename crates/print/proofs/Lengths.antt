@@ -1,4 +1,4 @@
--- How long numbers and lines are. Assumes nothing.
+-- How long numbers and lines are.
 use Prim.Native.Nat.{ℕ, zero, suc, _+_, _/_, _%_, _^_, _≤_, _<_}
 use native.Mathlib.Omega.{arith}
 use native.Mathlib.Nat.{pow-suc}

@@ -1,4 +1,4 @@
--- Texts put one after another are one text, and a loop that puts them is done when nothing is left. Assumes nothing.
+-- Texts put one after another are one text, and a loop that puts them is done when nothing is left.
 use Prim.Native.Nat.{ℕ, suc, _+_}
 use native.Mathlib.Omega.{arith}
 use native.Mathlib.Nat.{add-zero}

@@ -1,4 +1,4 @@
--- A text that is put into a lent list. Assumes nothing.
+-- A text that is put into a lent list.
 use Prim.Native.Nat.{ℕ, _+_, _≤_}
 use mathlib.Core.Path.{_≡_}
 use mathlib.Core.List.{List}

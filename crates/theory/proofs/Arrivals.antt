@@ -1,5 +1,5 @@
 -- Stays, visits and forward arrivals compared along a walk: a stay begins by a forward arrival at its header, a node that is no header is visited by forward arrivals only,
--- and between two forward arrivals at a node the header of the innermost loop over it is visited. Assumes nothing.
+-- and between two forward arrivals at a node the header of the innermost loop over it is visited.
 use Prim.Native.Nat.{ℕ, suc, _+_, _≤_, _<_}
 use native.Mathlib.Omega.{arith}
 use native.Mathlib.Decide.{decLe, ℕ-discrete}

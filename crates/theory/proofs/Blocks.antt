@@ -1,4 +1,4 @@
--- A row's blocks as a list. Assumes nothing.
+-- A row's blocks as a list.
 use Prim.Native.Nat.{ℕ, zero, suc, _<_}
 use native.Mathlib.Omega.{arith}
 use mathlib.Core.Path.{_≡_, refl, sym}

@@ -1,5 +1,5 @@
 -- The recursion along the chain of loops around a node, outermost first.
--- "Count of a node: the product of B over all loops that contain it" is one such chain. Assumes nothing.
+-- "Count of a node: the product of B over all loops that contain it" is one such chain.
 use Prim.Native.Nat.{ℕ, zero, suc, _+_, _*_, _≤_, _<_}
 use native.Mathlib.Omega.{arith}
 use mathlib.Core.Path.{_≡_, refl, ap, _∙_}

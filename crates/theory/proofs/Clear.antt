@@ -1,4 +1,4 @@
--- Walks inside a fact's scope that pass no fetch of its block: a walk past a node is one to it and one from it. Assumes nothing.
+-- Walks inside a fact's scope that pass no fetch of its block: a walk past a node is one to it and one from it.
 use Prim.Native.Nat.{ℕ}
 use mathlib.Core.Path.{_≡_, refl}
 use mathlib.Core.Logic.{_≢_, ⊎-elim}

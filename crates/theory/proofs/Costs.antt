@@ -1,4 +1,4 @@
--- Visits and what they cost, and the cost of some nodes split over others. Assumes nothing.
+-- Visits and what they cost, and the cost of some nodes split over others.
 use Prim.Native.Nat.{ℕ, _+_, _≤_, _<_}
 use native.Mathlib.Omega.{arith}
 use mathlib.Core.Path.{_≡_, refl}

@@ -1,4 +1,4 @@
--- How often a block stands in a list. Membership is a number, `1 ≤ cnt x l`, so that arithmetic does the reasoning about lists. Assumes nothing.
+-- How often a block stands in a list. Membership is a number, `1 ≤ cnt x l`, so that arithmetic does the reasoning about lists.
 use Prim.Native.Nat.{ℕ, _+_, _≤_}
 use mathlib.Core.Path.{_≡_, sym}
 use mathlib.Core.Logic.{_≢_}

@@ -1,5 +1,5 @@
 -- The counts bound the walks that keep the limits.
--- "Count of a node: the product of B over all loops that contain it. Entries of a loop: the product over the loops strictly around it." Assumes nothing.
+-- "Count of a node: the product of B over all loops that contain it. Entries of a loop: the product over the loops strictly around it."
 use Prim.Native.Nat.{ℕ, zero, suc, _+_, _-_, _*_, _≤_, _<_}
 use native.Mathlib.Omega.{arith}
 use native.Mathlib.Decide.{ℕ-discrete}

@@ -1,4 +1,4 @@
--- A step of the paper changes the first k lines as the machine on k lines does, and leaves the lines from k on. Assumes nothing.
+-- A step of the paper changes the first k lines as the machine on k lines does, and leaves the lines from k on.
 use Prim.Native.Nat.{ℕ, zero, suc, _-_, _≤_, _<_, min}
 use mathlib.Core.Path.{_≡_, sym, ap}
 use mathlib.Core.Bool.{Bool, true, false, cond, not}

@@ -1,4 +1,4 @@
--- What walks gather is decided, and listed. Assumes nothing.
+-- What walks gather is decided, and listed.
 use Prim.Native.Nat.{ℕ, suc, _≤_, _<_, _%_}
 use native.Mathlib.Omega.{arith}
 use native.Mathlib.Decide.{ℕ-discrete, map-dec}

@@ -1,5 +1,5 @@
 -- Demand 3, first half: on every walk that keeps the limits, from every legal content, each fact, each set and all of them miss at most as often as
--- the numbers printed say. Assumes nothing.
+-- the numbers printed say.
 use Prim.Native.Nat.{ℕ, _≤_, _<_}
 use native.Mathlib.Omega.{arith}
 use mathlib.Core.Path.{_≡_, refl}

@@ -1,4 +1,4 @@
--- Rows of what walks gather are sound evidence: 9 where no walk from b arrives, 8 where as many as the limit are gathered, else the set. Assumes nothing.
+-- Rows of what walks gather are sound evidence: 9 where no walk from b arrives, 8 where as many as the limit are gathered, else the set.
 use Prim.Native.Nat.{ℕ, suc, _≤_, _<_}
 use native.Mathlib.Omega.{arith}
 use native.Mathlib.Decide.{decLt}

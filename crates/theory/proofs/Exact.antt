@@ -24,7 +24,7 @@ use Rattle.theory.proofs.SameRow.{Same, same-sound, same-rule}
 use Rattle.theory.proofs.RowBytes.{written, written-length, written-small, written-row}
 use Rattle.theory.proofs.Needed.{sound-few}
 use Rattle.theory.proofs.Enough.{row, row-sound, row-small, row-few, row-rule}
-use Rattle.theory.proofs.OneFact.{one-fact}
+use Rattle.theory.proofs.OneAccepted.{one-fact}
 use Rattle.theory.proofs.OneBytes.{rows-bytes, file-bytes}
 
 module _ (e : Case) (t : Fact) (small : (v : ℕ) → e .block v < 65536) (low : t .limit ≤ 8) where

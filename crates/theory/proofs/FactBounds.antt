@@ -1,4 +1,4 @@
--- A fact's misses are at most its bound, in the machines on k lines. Assumes nothing.
+-- A fact's misses are at most its bound, in the machines on k lines.
 use Prim.Native.Nat.{ℕ, suc, _+_, _-_, _*_, _/_, _≤_, _<_}
 use native.Mathlib.Omega.{arith}
 use native.Mathlib.Decide.{decLe}

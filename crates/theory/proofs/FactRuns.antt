@@ -1,4 +1,4 @@
--- A fact in the run of a walk, in any machine that has a law: c times its misses are at most a times its entries and d times its fetches. Assumes nothing.
+-- A fact in the run of a walk, in any machine that has a law: c times its misses are at most a times its entries and d times its fetches.
 use Prim.Native.Nat.{ℕ, zero, suc, _+_, _-_, _*_, _%_, _≤_}
 use native.Mathlib.Omega.{arith}
 use native.Mathlib.Nat.{mod-lt, mul-le-mul-left}

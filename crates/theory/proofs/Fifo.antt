@@ -1,4 +1,4 @@
--- FIFO: of b's accesses the first in a stay misses, and of the others at most one in g. Assumes nothing.
+-- FIFO: of b's accesses the first in a stay misses, and of the others at most one in g.
 use Prim.Native.Nat.{ℕ, suc, _+_, _-_, _*_, _≤_, _<_}
 use mathlib.Core.Path.{_∙_}
 use mathlib.Core.List.{List, []}

@@ -1,4 +1,4 @@
--- FIFO's floors: FIFO with k ways beside LRU with l ways that starts empty, on the same walk, and M(l) bounds that LRU. Assumes nothing.
+-- FIFO's floors: FIFO with k ways beside LRU with l ways that starts empty, on the same walk, and M(l) bounds that LRU.
 use Prim.Native.Nat.{ℕ, zero, suc, _+_, _-_, _*_, _%_, _≤_, _<_}
 use native.Mathlib.Omega.{arith}
 use native.Mathlib.Nat.{mul-add, mul-zero, mul-comm, mul-le-mul-left, le-div-iff-mul-le}

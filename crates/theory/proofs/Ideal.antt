@@ -1,4 +1,4 @@
--- The three machines on k lines and no more: what the paper's eight lines show when those from k on are cut away. A list of k blocks is a set's lines. Assumes nothing.
+-- The three machines on k lines and no more: what the paper's eight lines show when those from k on are cut away. A list of k blocks is a set's lines.
 use Prim.Native.Nat.{ℕ, _-_, _^_, _≤_, _<_}
 use mathlib.Core.Path.{_≡_}
 use mathlib.Core.Logic.{_≢_}

@@ -1,4 +1,4 @@
--- A machine of one set, and what it keeps of a block b between two accesses of b. Assumes nothing.
+-- A machine of one set, and what it keeps of a block b between two accesses of b.
 use Prim.Native.Nat.{ℕ, _+_, _*_, _≤_}
 use mathlib.Core.Path.{_≡_}
 use mathlib.Core.Logic.{_≢_}

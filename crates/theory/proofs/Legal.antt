@@ -1,4 +1,4 @@
--- A legal state of the paper is k legal lines and empty ones after them. Assumes nothing.
+-- A legal state of the paper is k legal lines and empty ones after them.
 use Prim.Native.Nat.{ℕ, suc, _+_, _-_, _≤_}
 use mathlib.Core.Path.{_≡_, refl, sym, _∙_, ap}
 use mathlib.Core.Logic.{_≢_}

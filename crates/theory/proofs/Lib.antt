@@ -46,6 +46,6 @@ pub mod Enough
 pub mod SameRow
 pub mod RowBytes
 pub mod OneFile
-pub mod OneFact
+pub mod OneAccepted
 pub mod OneBytes
 pub mod Exact

@@ -1,4 +1,4 @@
--- A walk that keeps the limits: a header's visits are at most its bound times the stays. No edge matters here. Assumes nothing.
+-- A walk that keeps the limits: a header's visits are at most its bound times the stays. No edge matters here.
 use Prim.Native.Nat.{ℕ, _+_, _*_, _≤_}
 use native.Mathlib.Omega.{arith}
 use native.Mathlib.Nat.{mul-add, mul-one, mul-zero}

@@ -1,4 +1,4 @@
--- Laws of the lines of a set: where a block stands, and what a shift does to it. Assumes nothing.
+-- Laws of the lines of a set: where a block stands, and what a shift does to it.
 use Prim.Native.Nat.{ℕ, suc, _+_, _*_, _≤_, _<_}
 use mathlib.Core.Path.{_≡_, refl, sym, _∙_, ap}
 use mathlib.Core.Logic.{_≢_}

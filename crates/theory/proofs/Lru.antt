@@ -1,4 +1,4 @@
--- LRU: of b's accesses at most the first in a stay misses. Assumes nothing.
+-- LRU: of b's accesses at most the first in a stay misses.
 use Prim.Native.Nat.{ℕ, _<_}
 use mathlib.Core.Path.{_∙_}
 use mathlib.Core.List.{List}

@@ -1,4 +1,4 @@
--- The run of a walk in any machine: what each visit does to each set, and what it costs. Assumes nothing.
+-- The run of a walk in any machine: what each visit does to each set, and what it costs.
 use Prim.Native.Nat.{ℕ, _%_, _≤_, _<_}
 use native.Mathlib.Omega.{arith}
 use mathlib.Core.Path.{_≡_, refl}

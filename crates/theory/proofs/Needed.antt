@@ -1,4 +1,4 @@
--- Sound evidence has what walks gather. Assumes nothing.
+-- Sound evidence has what walks gather.
 use Prim.Native.Nat.{ℕ, _≤_, _<_}
 use native.Mathlib.Omega.{arith}
 use mathlib.Core.Path.{_≡_, refl}
@@ -12,7 +12,7 @@ use Rattle.paper.specs.Demands.{Rising, EdgeInside, Other, Gathered, FewGathere
 use Rattle.paper.proofs.Says.{says-true}
 use Rattle.paper.proofs.GraphLaws.{inside-says}
 use Rattle.paper.proofs.RowLaws.{held-set}
-use Rattle.paper.proofs.Tables.{length-table}
+use Rattle.paper.proofs.TableLaws.{length-table}
 use Rattle.paper.proofs.Meaning.{In, Holds, SoundRow, EdgeRule, SoundEvidence}
 use Rattle.theory.proofs.Reach.{last, next}
 use Rattle.theory.proofs.Clear.{Clear, split}

@@ -1,4 +1,4 @@
--- NMRU: of b's accesses in a stay at most l miss. Each time b is lost it comes back in a higher line, and it never comes to line l. Assumes nothing.
+-- NMRU: of b's accesses in a stay at most l miss. Each time b is lost it comes back in a higher line, and it never comes to line l.
 use Prim.Native.Nat.{ℕ, suc, _+_, _-_, _*_, _≤_, _<_}
 use mathlib.Core.Path.{_≡_, refl, sym, _∙_, ap}
 use mathlib.Core.Logic.{_≢_, _⊎_, inl, inr}

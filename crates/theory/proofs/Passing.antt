@@ -1,4 +1,4 @@
--- The visits of the nodes that pass a test are at most the sum of their counts. Assumes nothing.
+-- The visits of the nodes that pass a test are at most the sum of their counts.
 use Prim.Native.Nat.{ℕ, _≤_, _<_}
 use native.Mathlib.Omega.{arith}
 use mathlib.Core.Path.{_≡_, refl}

@@ -1,4 +1,4 @@
--- Pigeonhole: blocks in different lines that all lie in R are at most as many as R has. Assumes nothing.
+-- Pigeonhole: blocks in different lines that all lie in R are at most as many as R has.
 use Prim.Native.Nat.{ℕ, zero, suc, _≤_, _<_}
 use mathlib.Core.Path.{_≡_, refl, sym, _∙_, ap}
 use mathlib.Core.Logic.{_≢_}

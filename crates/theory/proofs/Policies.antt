@@ -1,4 +1,4 @@
--- The three policies by their numbers. Assumes nothing.
+-- The three policies by their numbers.
 use Prim.Native.Nat.{ℕ, _≤_}
 use mathlib.Core.Path.{_≡_}
 use mathlib.Core.Bool.{true}

@@ -1,4 +1,4 @@
--- Where the 321 numbers have the total, a set's bound and a fact's bound. Assumes nothing.
+-- Where the 321 numbers have the total, a set's bound and a fact's bound.
 use Prim.Native.Nat.{ℕ, _+_, _-_, _<_}
 use native.Mathlib.Omega.{arith}
 use mathlib.Core.Path.{_≡_, refl, _∙_}
@@ -7,7 +7,7 @@ use borrow.Author.Tests.{lt-ltb, le-ltb}
 use lib.ListN.{getD, List·getD-append}
 use Rattle.paper.specs.Cases.{Case}
 use Rattle.paper.specs.Bounds.{factBound, setBound, totalBound, numberAt, numbers}
-use Rattle.paper.proofs.Tables.{length-table, getD-table}
+use Rattle.paper.proofs.TableLaws.{length-table, getD-table}
 
 module _ (e : Case) where
   total-at : numberAt e 0 ≡ totalBound e

@@ -1,4 +1,4 @@
--- What a sound case says of its cache: the policy is offered at that many ways, and there are 1 to 64 sets. Assumes nothing.
+-- What a sound case says of its cache: the policy is offered at that many ways, and there are 1 to 64 sets.
 use Prim.Native.Nat.{_≤_, _<_}
 use mathlib.Core.Path.{_≡_}
 use mathlib.Core.Bool.{true}

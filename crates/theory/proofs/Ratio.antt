@@ -1,4 +1,4 @@
--- FIFO with k lines against LRU with l lines that start empty: k - l + 1 times FIFO's misses are at most k times LRU's, for each access and what is saved. Assumes nothing.
+-- FIFO with k lines against LRU with l lines that start empty: k - l + 1 times FIFO's misses are at most k times LRU's, for each access and what is saved.
 use Prim.Native.Nat.{ℕ, zero, suc, _+_, _*_, _≤_}
 use mathlib.Core.Path.{_≡_, refl, ap}
 use mathlib.Core.Logic.{_≢_}

@@ -1,4 +1,4 @@
--- What LRU and FIFO know of b: the lines before b's are blocks of R that came since, and at most q others. Assumes nothing.
+-- What LRU and FIFO know of b: the lines before b's are blocks of R that came since, and at most q others.
 use Prim.Native.Nat.{ℕ, zero, suc, _+_, _≤_, _<_}
 use mathlib.Core.Path.{_≡_, refl, sym, _∙_}
 use mathlib.Core.Logic.{_≢_}

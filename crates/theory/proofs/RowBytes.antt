@@ -1,4 +1,4 @@
--- Rows as bytes, 16 a row, and back. Assumes nothing.
+-- Rows as bytes, 16 a row, and back.
 use Prim.Native.Nat.{ℕ, zero, suc, _+_, _*_, _/_, _%_, _<_}
 use native.Mathlib.Omega.{arith}
 use mathlib.Core.Path.{_≡_, refl, _∙_, ap}

@@ -1,4 +1,4 @@
--- What a fact's row says of b's set before its node's fetch, and how an edge carries it on. Assumes nothing.
+-- What a fact's row says of b's set before its node's fetch, and how an edge carries it on.
 use Prim.Native.Nat.{ℕ, _+_, _-_, _*_, _%_, _≤_, _<_}
 use native.Mathlib.Omega.{arith}
 use native.Mathlib.Decide.{ℕ-discrete, decLe}
@@ -12,7 +12,7 @@ use Rattle.paper.specs.Facts.{held}
 use Rattle.paper.specs.Bounds.{lives}
 use Rattle.paper.specs.Demands.{Other}
 use Rattle.paper.proofs.Says.{Says, holds, fails}
-use Rattle.paper.proofs.Tables.{length-table}
+use Rattle.paper.proofs.TableLaws.{length-table}
 use Rattle.paper.proofs.RowLaws.{held-set}
 use Rattle.paper.proofs.Meaning.{Holds, SoundRow, Carried, EdgeRule}
 use Rattle.theory.proofs.Blocks.{blocks, holds-mem, mem-holds}

@@ -1,4 +1,4 @@
--- Rows with the same number and the same seven slots keep the same rules, whatever rows the fact itself has. Assumes nothing.
+-- Rows with the same number and the same seven slots keep the same rules, whatever rows the fact itself has.
 use Prim.Native.Nat.{ℕ, suc, _<_}
 use native.Mathlib.Omega.{arith}
 use mathlib.Core.Path.{_≡_, sym, _∙_, ap}

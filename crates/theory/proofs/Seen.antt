@@ -1,4 +1,4 @@
--- The paper's run of a walk, on eight lines and a byte of bits, misses where the run in the machine on k lines does. Assumes nothing.
+-- The paper's run of a walk, on eight lines and a byte of bits, misses where the run in the machine on k lines does.
 use Prim.Native.Nat.{ℕ, _+_, _%_, _<_}
 use native.Mathlib.Omega.{arith}
 use native.Mathlib.Nat.{mod-lt}

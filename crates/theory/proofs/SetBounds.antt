@@ -1,4 +1,4 @@
--- A set's misses are at most its bound, and all misses at most the total, in the machines on k lines. Assumes nothing.
+-- A set's misses are at most its bound, and all misses at most the total, in the machines on k lines.
 use Prim.Native.Nat.{ℕ, zero, suc, _%_, _≤_, _<_}
 use native.Mathlib.Omega.{arith}
 use native.Mathlib.Nat.{mod-lt}

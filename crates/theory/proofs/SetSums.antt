@@ -1,4 +1,4 @@
--- A set's misses are those of its facts, and of its nodes that no fact covers: "A" and "M(l)" are both such sums. Assumes nothing.
+-- A set's misses are those of its facts, and of its nodes that no fact covers: "A" and "M(l)" are both such sums.
 use Prim.Native.Nat.{ℕ, _≤_, _<_}
 use native.Mathlib.Omega.{arith}
 use mathlib.Core.Path.{_≡_, refl, sym, _∙_, ap}

@@ -1,4 +1,4 @@
--- A fact along a walk: what its accesses cost is paid by the stays in its scope and by the accesses. Assumes nothing.
+-- A fact along a walk: what its accesses cost is paid by the stays in its scope and by the accesses.
 use Prim.Native.Nat.{ℕ, suc, _+_, _-_, _*_, _%_, _≤_}
 use native.Mathlib.Omega.{arith}
 use native.Mathlib.Nat.{mul-add, mul-zero, mul-one, mul-le-mul-left}

@@ -1,4 +1,4 @@
--- Strictly rising lists. Assumes nothing.
+-- Strictly rising lists.
 use Prim.Native.Nat.{ℕ, zero, suc, _+_, _≤_, _<_}
 use native.Mathlib.Omega.{arith}
 use native.Mathlib.Decide.{ℕ-discrete}

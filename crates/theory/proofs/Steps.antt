@@ -1,4 +1,4 @@
--- What one edge of a sound graph does. Assumes nothing.
+-- What one edge of a sound graph does.
 use Prim.Native.Nat.{ℕ, _≤_, _<_}
 use native.Mathlib.Omega.{arith}
 use native.Mathlib.Decide.{decLe, decLt, ℕ-discrete}

@@ -1,4 +1,4 @@
--- Sums over the numbers below n. Assumes nothing.
+-- Sums over the numbers below n.
 use Prim.Native.Nat.{ℕ, zero, suc, _+_, _≤_, _<_}
 use native.Mathlib.Omega.{arith}
 use native.Mathlib.Decide.{ℕ-discrete}

@@ -1,4 +1,4 @@
--- Visits counted along a walk by a test of the node visited before and the node visited, and one induction with a credit that compares two such tallies. Assumes nothing.
+-- Visits counted along a walk by a test of the node visited before and the node visited, and one induction with a credit that compares two such tallies.
 use Prim.Native.Nat.{ℕ, _+_, _≤_}
 use native.Mathlib.Omega.{arith}
 use mathlib.Core.Path.{_≡_, refl}

@@ -1,4 +1,4 @@
--- Tests and the numbers that they make. Assumes nothing.
+-- Tests and the numbers that they make.
 use Prim.Native.Nat.{ℕ, _≤_}
 use native.Mathlib.Omega.{arith}
 use mathlib.Core.Bool.{Bool, true, false}

@@ -1,4 +1,4 @@
--- The paper's machines, on eight lines and a byte of bits, seen as the machines on k lines: they miss at the same accesses, and a step keeps a state legal. Assumes nothing.
+-- The paper's machines, on eight lines and a byte of bits, seen as the machines on k lines: they miss at the same accesses, and a step keeps a state legal.
 use Prim.Native.Nat.{ℕ, _≤_}
 use mathlib.Core.Path.{_≡_, refl, sym, _∙_, ap, ap₂}
 use mathlib.Core.Bool.{Bool, true, false, not, cond}

@@ -1,4 +1,4 @@
--- The loop of a trace run, once for every policy: what holds after i accesses, that it holds at first, that an access keeps it, and what it says at the end. Assumes nothing.
+-- The loop of a trace run, once for every policy: what holds after i accesses, that it holds at first, that an access keeps it, and what it says at the end.
 use Prim.Native.Nat.{ℕ, zero, suc, _+_, _%_, _^_, _<_, _≤_}
 use native.Mathlib.Nat.{add-zero, zero-add, add-assoc}
 use native.Mathlib.Numerals.{add-one}
@@ -20,9 +20,9 @@ use Rattle.paper.specs.Traces.{Content, after, missAt, marks, total, badAccess}
 use Rattle.paper.specs.Runs.{LegalSet}
 use Rattle.paper.proofs.Says.{says-true}
 use Rattle.paper.proofs.States.{says-offered, empty-legal}
-use Rattle.paper.proofs.Moves.{legal-ready, nmru-bits}
+use Rattle.paper.proofs.MoveLaws.{legal-ready, nmru-bits}
 use Rattle.theory.proofs.View as View
-use Rattle.trace.specs.Runs.{made, Runs, Ran}
+use Rattle.trace.specs.TraceRuns.{made, Runs, Ran}
 
 pub same-content : {c d : Content} → ((q : ℕ) → c q ≡ d q) → c ≡ d
 same-content h = λ j q. h q j

@@ -1,4 +1,4 @@
--- "Trace run: 3, 20, 21." The four answers, and what a run that is not refused may rely on. Assumes nothing.
+-- "Trace run: 3, 20, 21." The four answers, and what a run that is not refused may rely on.
 use Prim.Native.Nat.{ℕ, _<_, _≤_}
 use native.Mathlib.Omega.{arith}
 use mathlib.Core.Path.{_≡_, sym, ap}
@@ -16,7 +16,7 @@ use Rattle.paper.specs.Traces.{Run, refusedRun, badAccess, traceRun}
 use Rattle.paper.proofs.Least.{none-some}
 use Rattle.paper.proofs.Says.{says-true, both}
 use Rattle.paper.proofs.States.{says-sets}
-use Rattle.trace.specs.Runs.{made, Runs, Ran}
+use Rattle.trace.specs.TraceRuns.{made, Runs, Ran}
 use Rattle.trace.proofs.Going.{length-marks}
 
 module _ (p w s : ℕ) (bs ms : List ℕ) where

@@ -5,7 +5,7 @@ ghost use Prim.Native.Nat.{_+_, _≤_};
 ghost use lib.ListN.{length};
 ghost use Rattle.paper.specs.Lists as Lists;
 ghost use Rattle.paper.specs.Traces as Traces;
-ghost use Rattle.trace.specs.Runs.{Runs, Ran, someOf, Clear};
+ghost use Rattle.trace.specs.TraceRuns.{Runs, Ran, someOf, Clear};
 use paper::Block;
 use paper::SetState;
 use paper::TraceAnswer;

@@ -1,15 +1,15 @@
 use borrow.Author.Needs.{needs}
 use mathlib.Core.Path.{sym, _∙_}
 use Rattle.layout.proofs.Laws.{read-laid}
-use Rattle.bolgverk.proofs.Checking.{too-short, layout-refused, judged-check}
+use Rattle.bolgverk.proofs.Checking.{too-short, layout-refused, ruled-check}
 use Rattle.bolgverk.proofs.check.Statement.{statement}
 use Rattle.bolgverk.proofs.check.Tie as tie
 
 returns : tie.Need-returns
 returns c = too-short _ _ _ (c .before .if1 .taken) (c .refuse .ensures)
 
-judge-requires : tie.Need-judge-requires
-judge-requires c κs =
+rule-on-requires : tie.Need-rule-on-requires
+rule-on-requires c κs =
     let m = c .before .before in
     let l = m .before .before in
     let e = sym (l .layout-of .ensures) ∙ m .read .given .1 in
@@ -20,7 +20,7 @@ returns-2 c =
     let j = c .before .before in
     let m = j .before .before .before in
     let l = m .before .before in
-    judged-check _ _ (l .before .if1 .left) _ (l .layout-of .ensures) _ (m .read .given .1) _ _ (j .judge .ensures)
+    ruled-check _ _ (l .before .if1 .left) _ (l .layout-of .ensures) _ (m .read .given .1) _ _ (j .rule-on .ensures)
 
 returns-3 : tie.Need-returns-3
 returns-3 c =
@@ -35,7 +35,7 @@ check-spec =
     returns
     (λ c κs. search needs)
     (λ c. search needs)
-    judge-requires
+    rule-on-requires
     (λ c. search needs)
     (λ c. search needs)
     returns-2

@@ -2,10 +2,10 @@
 use mathlib.Core.Path.{_∙_}
 use borrow.Author.Needs.{needs}
 use Rattle.paper.specs.Files.{caseOf}
-use Rattle.charge.specs.Ready.{Ready}
+use Rattle.charge.specs.ReadyFile.{Ready}
 use Rattle.charge.specs.Tables.{Part}
 use Rattle.charge.proofs.Cover.{covered-start}
-use Rattle.charge.proofs.Parts.{part-start, part-self, part-end}
+use Rattle.charge.proofs.PartLaws.{part-start, part-self, part-end}
 use Rattle.charge.proofs.Tallies.{grouped-start}
 use Rattle.charge.proofs.charge.Statement.{statement}
 use Rattle.charge.proofs.charge.Tie as tie

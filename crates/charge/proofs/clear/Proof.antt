@@ -3,7 +3,7 @@ use Prim.Native.Nat.{_-_}
 use native.Mathlib.Omega.{arith}
 use mathlib.Core.Path.{refl}
 use Rattle.paper.specs.Bounds.{listLength}
-use Rattle.paper.proofs.Tables.{Written, written-start, written-length, written-more, written-end}
+use Rattle.paper.proofs.TableLaws.{Written, written-start, written-length, written-more, written-end}
 use Rattle.charge.proofs.clear.Statement.{statement}
 use Rattle.charge.proofs.clear.Tie as tie
 

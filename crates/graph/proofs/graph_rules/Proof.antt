@@ -1,7 +1,7 @@
 -- `graph_rules` answers as the first of its parts that refuses, or as the last: s is where the shape was judged, k where it was accepted, w where the paths were.
 use borrow.Author.Needs.{needs}
 use Rattle.paper.proofs.RuleLaws.{never}
-use Rattle.graph.proofs.Chained.{shape-refused, shape-passed, paths-refused, counts-decide}
+use Rattle.graph.proofs.GraphChains.{shape-refused, shape-passed, paths-refused, counts-decide}
 use Rattle.graph.proofs.graph_rules.Statement.{statement}
 use Rattle.graph.proofs.graph_rules.Tie as tie
 

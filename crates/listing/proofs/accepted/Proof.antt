@@ -1,12 +1,12 @@
--- `listing::accepted` puts the total, the sets and the facts one after another, and there is room for them. Assumes nothing.
+-- `listing::accepted` puts the total, the sets and the facts one after another, and there is room for them.
 use native.Mathlib.Omega.{arith}
 use borrow.Author.Needs.{needs}
 use Rattle.paper.specs.Listings.{boundLines}
 use Rattle.print.specs.Put.{Fits}
 use Rattle.print.proofs.Putting.{first-fits, then-fits, put-then}
 use Rattle.listing.specs.Listed.{numberLines}
-use Rattle.listing.proofs.Lengths.{numbers-length}
-use Rattle.listing.proofs.Texts.{printed-whole}
+use Rattle.listing.proofs.LongestListing.{numbers-length}
+use Rattle.listing.proofs.ListingTexts.{printed-whole}
 use Rattle.listing.proofs.accepted.Statement.{statement}
 use Rattle.listing.proofs.accepted.Tie as tie
 

@@ -1,9 +1,9 @@
--- `listing::checked` prints what the check and the layout say. Assumes nothing.
+-- `listing::checked` prints what the check and the layout say.
 use mathlib.Core.Path.{sym, _∙_}
 use borrow.Author.Needs.{needs}
 use Rattle.layout.proofs.Laws.{read-laid}
 use Rattle.bolgverk.proofs.Determined.{check-answer}
-use Rattle.listing.proofs.Texts.{printed-as, refused-text, layout-text, accepted-text}
+use Rattle.listing.proofs.ListingTexts.{printed-as, refused-text, layout-text, accepted-text}
 use Rattle.listing.proofs.checked.Statement.{statement}
 use Rattle.listing.proofs.checked.Tie as tie
 

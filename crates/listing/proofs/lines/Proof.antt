@@ -1,4 +1,4 @@
--- `listing::lines` puts one line after another: after i of them the others are left. Assumes nothing.
+-- `listing::lines` puts one line after another: after i of them the others are left.
 use Prim.Native.Nat.{_-_}
 use native.Mathlib.Nat.{sub-zero}
 use native.Mathlib.Omega.{arith}

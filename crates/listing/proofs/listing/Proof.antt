@@ -1,6 +1,6 @@
--- `listing::listing` refuses longer input, and prints what is checked. Assumes nothing.
+-- `listing::listing` refuses longer input, and prints what is checked.
 use borrow.Author.Needs.{needs}
-use Rattle.listing.proofs.Texts.{printed-as, longer, not-longer}
+use Rattle.listing.proofs.ListingTexts.{printed-as, longer, not-longer}
 use Rattle.listing.proofs.listing.Statement.{statement}
 use Rattle.listing.proofs.listing.Tie as tie
 

@@ -1,8 +1,8 @@
--- `listing::refused`: there is room for a refusal's line. Assumes nothing.
+-- `listing::refused`: there is room for a refusal's line.
 use native.Mathlib.Omega.{arith}
 use borrow.Author.Needs.{needs}
 use Rattle.print.proofs.Lengths.{refusal-length}
-use Rattle.listing.proofs.Texts.{printed-whole}
+use Rattle.listing.proofs.ListingTexts.{printed-whole}
 use Rattle.listing.proofs.refused.Statement.{statement}
 use Rattle.listing.proofs.refused.Tie as tie
 

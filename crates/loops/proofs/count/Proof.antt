@@ -1,6 +1,6 @@
 -- `loops::count` meets its contract: a walk of its MIR by hand, of a reader with a `while`. In each turn the lent slice is looked into, record j is copied out of it, the slice is shut, and `step` is called with the copy.
 -- All that the proof knows of `step` is that it meets its contract.
--- Assumes nothing.
+--
 use mathlib.Core.Path.{_≡_, refl, sym, _∙_, ap}
 use Prim.Native.Nat.{ℕ, _+_, _-_, _*_, _<_, _≤_, _^_}
 use native.Mathlib.Omega.{arith}

@@ -1,6 +1,6 @@
 -- `loops::count_in` meets its contract: a walk of its MIR by hand, of a lender. The array is copied to a local, its first n records are lent for a lifetime that is made for the call of `count`, and come back after it.
 -- All that the proof knows of `count` is that it meets its contract.
--- Assumes nothing.
+--
 use mathlib.Core.Path.{_≡_, refl, sym, _∙_, ap}
 use Prim.Native.Nat.{ℕ, _<_, _≤_, _^_}
 use native.Mathlib.Omega.{arith}

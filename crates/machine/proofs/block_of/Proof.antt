@@ -1,4 +1,4 @@
--- `machine::block_of` meets its contract. Assumes nothing.
+-- `machine::block_of` meets its contract.
 use Prim.Native.Nat.{ℕ, zero, suc, _<_}
 use native.Mathlib.Omega.{arith}
 use mathlib.Core.Path.{_≡_, sym, _∙_}

@@ -1,4 +1,4 @@
--- `machine::is_line_size` meets its contract. Assumes nothing.
+-- `machine::is_line_size` meets its contract.
 use mathlib.Core.Path.{sym}
 use mathlib.Core.Logic.{⊎-elim, inl, inr}
 use borrow.Author.Tests.{ne-eqb}

@@ -1,4 +1,4 @@
--- `machine::refused` meets its contract. Assumes nothing.
+-- `machine::refused` meets its contract.
 use borrow.Author.Needs.{needs}
 use Rattle.machine.proofs.refused.Statement.{statement}
 use Rattle.machine.proofs.refused.Tie as tie

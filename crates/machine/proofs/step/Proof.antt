@@ -1,4 +1,4 @@
--- `machine::step` meets its contract. Assumes nothing.
+-- `machine::step` meets its contract.
 use mathlib.Core.Path.{sym, _∙_}
 use borrow.Author.Tests.{not-true, not-false}
 use Rattle.paper.proofs.Says.{says-true}

@@ -8,7 +8,7 @@ use Rattle.paper.specs.Machines.{step}
 use Rattle.paper.specs.Shifts.{shiftAt}
 use Rattle.paper.proofs.Says.{says-true}
 use Rattle.paper.proofs.States.{says-offered}
-use Rattle.paper.proofs.Moves.{legal-ready, nmru-bits}
+use Rattle.paper.proofs.MoveLaws.{legal-ready, nmru-bits}
 use Rattle.machine.proofs.take_step.Statement.{statement}
 use Rattle.machine.proofs.take_step.Tie as tie
 

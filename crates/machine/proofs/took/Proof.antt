@@ -1,4 +1,4 @@
--- `machine::took` meets its contract. Assumes nothing.
+-- `machine::took` meets its contract.
 use Rattle.machine.proofs.took.Statement.{statement}
 use Rattle.machine.proofs.took.Tie as tie
 

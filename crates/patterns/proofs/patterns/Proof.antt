@@ -3,7 +3,7 @@ use native.Mathlib.Omega.{arith}
 use mathlib.Core.Path.{_∙_, ap}
 use borrow.Author.Needs.{needs}
 use lib.ListN.{length}
-use Rattle.patterns.proofs.Texts.{patterns-length, whole}
+use Rattle.patterns.proofs.PatternTexts.{patterns-length, whole}
 use Rattle.patterns.proofs.patterns.Statement.{statement}
 use Rattle.patterns.proofs.patterns.Tie as tie
 

@@ -1,4 +1,4 @@
--- `pipe::converse` is safe and ends: no run answers 2^64 - 1 requests, so the number that are left to answer falls. Assumes nothing.
+-- `pipe::converse` is safe and ends: no run answers 2^64 - 1 requests, so the number that are left to answer falls.
 use Prim.Native.Nat.{_-_}
 use mathlib.Core.Path.{_≡_}
 use borrow.Author.Needs.{needs}

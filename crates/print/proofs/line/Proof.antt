@@ -1,4 +1,4 @@
--- `print::line` is its parts, one after another. Assumes nothing.
+-- `print::line` is its parts, one after another.
 use borrow.Author.Needs.{needs}
 use Rattle.paper.specs.Listings.{line}
 use Rattle.print.proofs.Putting.{first-fits, then-fits, put-then}

@@ -1,4 +1,4 @@
--- `print::number` puts what `io::decimal` makes, which is the number in decimal. Assumes nothing.
+-- `print::number` puts what `io::decimal` makes, which is the number in decimal.
 use mathlib.Core.Path.{sym, _∙_}
 use borrow.Author.Needs.{needs}
 use Rattle.print.proofs.Decimals.{decimal-digits}

@@ -1,4 +1,4 @@
--- `print::refusal`: a refusal's line has at most 50 bytes. Assumes nothing.
+-- `print::refusal`: a refusal's line has at most 50 bytes.
 use native.Mathlib.Omega.{arith}
 use borrow.Author.Needs.{needs}
 use Rattle.print.proofs.Lengths.{refusal-length}

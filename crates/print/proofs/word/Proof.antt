@@ -1,4 +1,4 @@
--- `print::word` puts its bytes one after another: after i of them the others are left. Assumes nothing.
+-- `print::word` puts its bytes one after another: after i of them the others are left.
 use Prim.Native.Nat.{_-_}
 use native.Mathlib.Numerals.{add-one}
 use native.Mathlib.Omega.{arith}

@@ -9,7 +9,7 @@ use borrow.Author.Tests.{not-false}
 use Rattle.paper.specs.declared.Sets.{Sets}
 use Rattle.paper.proofs.Says.{says-true}
 use Rattle.paper.proofs.States.{says-offered}
-use Rattle.trace.specs.Runs.{held}
+use Rattle.trace.specs.TraceRuns.{held}
 use Rattle.trace.proofs.Going.{Going, going-start, going-more, going-end, set-ready, no-none}
 use Rattle.trace.proofs.Held.{Stored, stored, unchanged, held-at, held-empty, sets-known, step-fifo, fifo-same}
 use Rattle.trace.proofs.fifo_run.Statement.{statement}

@@ -9,7 +9,7 @@ use Rattle.paper.specs.declared.Sets.{Sets}
 use Rattle.paper.specs.Shifts.{shiftAt}
 use Rattle.paper.proofs.Says.{says-true}
 use Rattle.paper.proofs.States.{says-offered}
-use Rattle.trace.specs.Runs.{heldApart}
+use Rattle.trace.specs.TraceRuns.{heldApart}
 use Rattle.trace.proofs.Going.{Going, going-start, going-same, going-more, going-end, set-ready, no-none}
 use Rattle.trace.proofs.Held.{Turned, stays, turns, apart-here, apart-other, apart-empty, sets-known, shift-known, step-lru}
 use Rattle.trace.proofs.lru_run.Statement.{statement}

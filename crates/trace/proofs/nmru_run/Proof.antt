@@ -6,7 +6,7 @@ use mathlib.Core.Logic.{⊎-elim}
 use lib.ListN.{length, getD}
 use borrow.Author.Needs.{needs}
 use Rattle.paper.specs.declared.Sets.{Sets}
-use Rattle.trace.specs.Runs.{heldApart}
+use Rattle.trace.specs.TraceRuns.{heldApart}
 use Rattle.trace.proofs.Going.{Going, going-start, going-same, going-more, going-end, set-ready, set-bits, no-none}
 use Rattle.trace.proofs.Held.{Turned, stays, turns, apart-here, apart-other, apart-empty, sets-known, step-nmru}
 use Rattle.trace.proofs.nmru_run.Statement.{statement}

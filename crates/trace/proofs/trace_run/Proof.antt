@@ -1,4 +1,4 @@
--- `trace::trace_run` meets its contract: each answer fixes the result and the lent bytes. Assumes nothing.
+-- `trace::trace_run` meets its contract: each answer fixes the result and the lent bytes.
 use mathlib.Core.Path.{sym, _∙_}
 use borrow.Author.Needs.{needs}
 use borrow.Author.Tests.{not-true, not-false}

@@ -6,7 +6,7 @@ use Rattle.paper.specs.Files.{caseOf}
 use Rattle.charge.specs.Chained.{Chained}
 use Rattle.charge.specs.Sizes as Sizes
 use Rattle.charge.proofs.Buckets.{chained-more}
-use Rattle.charge.proofs.Sums.{at-end}
+use Rattle.charge.proofs.SmallSums.{at-end}
 use Rattle.charge.proofs.chains.chain_nodes.Statement.{statement}
 use Rattle.charge.proofs.chains.chain_nodes.Tie as tie
 

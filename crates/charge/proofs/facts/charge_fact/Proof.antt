@@ -5,7 +5,7 @@ use borrow.Author.Needs.{needs}
 use Rattle.paper.specs.Files.{u16At, caseOf}
 use Rattle.charge.specs.Tables.{headOf}
 use Rattle.charge.specs.declared.heads.Head.{Head}
-use Rattle.charge.proofs.Costs.{scope-low, cost-is, lowered-is}
+use Rattle.charge.proofs.FactCosts.{scope-low, cost-is, lowered-is}
 use Rattle.charge.proofs.facts.charge_fact.Statement.{statement}
 use Rattle.charge.proofs.facts.charge_fact.Tie as tie
 

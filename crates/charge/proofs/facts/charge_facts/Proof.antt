@@ -1,7 +1,7 @@
 -- The tables begin empty, are filled for all loops and all nodes, and are lent to the pass over the facts.
 use borrow.Author.Needs.{needs}
 use Rattle.charge.proofs.Buckets.{chained-start}
-use Rattle.charge.proofs.Passing.{outers-start}
+use Rattle.charge.proofs.LoopsOut.{outers-start}
 use Rattle.charge.proofs.facts.charge_facts.Statement.{statement}
 use Rattle.charge.proofs.facts.charge_facts.Tie as tie
 

@@ -8,7 +8,7 @@ use lib.ListN.{length}
 use Rattle.paper.specs.Machines.{none}
 use Rattle.paper.specs.Cases.{size}
 use Rattle.paper.specs.Files.{headEnd, rowPlace, factEnd}
-use Rattle.charge.proofs.Costs.{scope-low, scope-fits, head-room, next-is, head-is}
+use Rattle.charge.proofs.FactCosts.{scope-low, scope-fits, head-room, next-is, head-is}
 use Rattle.charge.proofs.heads.head_at.Statement.{statement}
 use Rattle.charge.proofs.heads.head_at.Tie as tie
 

@@ -4,8 +4,8 @@ use native.Mathlib.Omega.{arith}
 use Rattle.paper.specs.Files.{caseOf}
 use Rattle.charge.specs.NextOut.{Outers}
 use Rattle.charge.specs.Sizes as Sizes
-use Rattle.charge.proofs.Passing.{outers-more}
-use Rattle.charge.proofs.Sums.{at-end}
+use Rattle.charge.proofs.LoopsOut.{outers-more}
+use Rattle.charge.proofs.SmallSums.{at-end}
 use Rattle.charge.proofs.outers.chain_loops.Statement.{statement}
 use Rattle.charge.proofs.outers.chain_loops.Tie as tie
 

@@ -4,7 +4,7 @@ use native.Mathlib.Omega.{arith}
 use lib.ListN.{getD}
 use Rattle.paper.specs.Files.{caseOf}
 use Rattle.charge.specs.Sizes as Sizes
-use Rattle.charge.proofs.Passing.{Passing, passing-start, passing-low, passing-found, passing-more, passing-end}
+use Rattle.charge.proofs.LoopsOut.{Passing, passing-start, passing-low, passing-found, passing-more, passing-end}
 use Rattle.charge.proofs.outers.next_out.Statement.{statement}
 use Rattle.charge.proofs.outers.next_out.Tie as tie
 

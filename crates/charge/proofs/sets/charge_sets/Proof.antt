@@ -9,7 +9,7 @@ use Rattle.paper.proofs.Sums.{Added, added-start, added-more}
 use Rattle.formulas.specs.Largest.{largestA}
 use Rattle.charge.specs.Sizes as Sizes
 use Rattle.charge.specs.Tables.{Part}
-use Rattle.charge.proofs.Parts.{part-set, part-total}
+use Rattle.charge.proofs.PartLaws.{part-set, part-total}
 use Rattle.charge.proofs.sets.charge_sets.Statement.{statement}
 use Rattle.charge.proofs.sets.charge_sets.Tie as tie
 

@@ -7,7 +7,7 @@ use Rattle.paper.specs.Files.{caseOf}
 use Rattle.paper.proofs.Sums.{lowest-end}
 use Rattle.charge.specs.Sizes as Sizes
 use Rattle.charge.specs.Tables.{placeOf}
-use Rattle.charge.proofs.Floors.{Flooring, flooring-start, out-fits, in-small, next-small, flooring-more}
+use Rattle.charge.proofs.FloorSums.{Flooring, flooring-start, out-fits, in-small, next-small, flooring-more}
 use Rattle.charge.proofs.sets.least_floor.Statement.{statement}
 use Rattle.charge.proofs.sets.least_floor.Tie as tie
 

@@ -1,7 +1,7 @@
 -- A is in the tables, and small; FIFO takes the least floor too.
 use native.Mathlib.Omega.{arith}
 use borrow.Author.Needs.{needs}
-use Rattle.charge.proofs.Floors.{A-small, fifo-set, other-set}
+use Rattle.charge.proofs.FloorSums.{A-small, fifo-set, other-set}
 use Rattle.charge.proofs.sets.set_bound.Statement.{statement}
 use Rattle.charge.proofs.sets.set_bound.Tie as tie
 

@@ -1,9 +1,9 @@
--- `frames::numbers::read_blocks` fills the whole list, place after place. Assumes nothing.
+-- `frames::numbers::read_blocks` fills the whole list, place after place.
 use Prim.Native.Nat.{_*_, _-_}
 use borrow.Author.Needs.{needs}
 use lib.ListN.{length, length-set}
 use Rattle.paper.specs.Files.{u16At}
-use Rattle.frames.proofs.Filled.{Filled, filled-start, filled-more, filled-end}
+use Rattle.frames.proofs.FilledLists.{Filled, filled-start, filled-more, filled-end}
 use Rattle.frames.proofs.numbers.read_blocks.Statement.{statement}
 use Rattle.frames.proofs.numbers.read_blocks.Tie as tie
 

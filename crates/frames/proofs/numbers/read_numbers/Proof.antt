@@ -1,9 +1,9 @@
--- `frames::numbers::read_numbers` fills the whole list, place after place. Assumes nothing.
+-- `frames::numbers::read_numbers` fills the whole list, place after place.
 use Prim.Native.Nat.{_*_, _-_}
 use borrow.Author.Needs.{needs}
 use lib.ListN.{length, length-set}
 use Rattle.frames.specs.Little.{u64At}
-use Rattle.frames.proofs.Filled.{Filled, filled-start, filled-more, filled-end}
+use Rattle.frames.proofs.FilledLists.{Filled, filled-start, filled-more, filled-end}
 use Rattle.frames.proofs.numbers.read_numbers.Statement.{statement}
 use Rattle.frames.proofs.numbers.read_numbers.Tie as tie
 

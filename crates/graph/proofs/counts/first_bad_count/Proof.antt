@@ -1,5 +1,5 @@
 use borrow.Author.Needs.{needs}
-use Rattle.graph.proofs.Counting.{least-count, all-counted}
+use Rattle.graph.proofs.CountMarks.{least-count, all-counted}
 use Rattle.graph.proofs.counts.first_bad_count.Statement.{statement}
 use Rattle.graph.proofs.counts.first_bad_count.Tie as tie
 

@@ -1,4 +1,4 @@
--- `machine::legality::has_legal_bits` meets its contract. Assumes nothing.
+-- `machine::legality::has_legal_bits` meets its contract.
 use Prim.Native.Nat.{_-_}
 use native.Mathlib.Omega.{arith}
 use borrow.Author.Needs.{needs}

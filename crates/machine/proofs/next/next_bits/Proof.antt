@@ -1,4 +1,4 @@
--- `machine::next::next_bits` meets its contract: antt computes the rule at each of the 2,048 entries. Assumes nothing.
+-- `machine::next::next_bits` meets its contract: antt computes the rule at each of the 2,048 entries.
 use mathlib.Core.Path.{refl}
 use Rattle.paper.specs.Lists.{table}
 use Rattle.paper.specs.Machines.{marked}

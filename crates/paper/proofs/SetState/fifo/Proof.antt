@@ -7,7 +7,7 @@ use lib.ListN.{length}
 use borrow.Author.Needs.{needs}
 use Rattle.paper.specs.Ready.{steppedOf}
 use Rattle.paper.specs.Shifts.{movedBy}
-use Rattle.paper.proofs.Moves.{fifo-hit, fifo-miss}
+use Rattle.paper.proofs.MoveLaws.{fifo-hit, fifo-miss}
 use Rattle.paper.proofs.SetState.fifo.Statement.{statement}
 use Rattle.paper.proofs.SetState.fifo.Tie as tie
 

@@ -2,7 +2,7 @@
 use mathlib.Core.Path.{_≡_}
 use lib.ListN.{length}
 use borrow.Author.Needs.{needs}
-use Rattle.paper.proofs.Moves.{line-low, nmru-stands, nmru-absent}
+use Rattle.paper.proofs.MoveLaws.{line-low, nmru-stands, nmru-absent}
 use Rattle.paper.proofs.SetState.line.Statement.{statement}
 use Rattle.paper.proofs.SetState.line.Tie as tie
 

@@ -6,7 +6,7 @@ use mathlib.Core.List.{List}
 use lib.ListN.{length}
 use borrow.Author.Needs.{needs}
 use Rattle.paper.specs.Ready.{steppedOf}
-use Rattle.paper.proofs.Moves.{line-bit, nmru-hit, nmru-miss}
+use Rattle.paper.proofs.MoveLaws.{line-bit, nmru-hit, nmru-miss}
 use Rattle.paper.proofs.SetState.nmru.Statement.{statement}
 use Rattle.paper.proofs.SetState.nmru.Tie as tie
 

@@ -1,4 +1,4 @@
--- `paper::cache::is_offered` meets its contract. Assumes nothing.
+-- `paper::cache::is_offered` meets its contract.
 use borrow.Author.Tests.{ne-eqb}
 use Rattle.paper.specs.Machines.{offered}
 use Rattle.paper.proofs.cache.is_offered.Statement.{statement}

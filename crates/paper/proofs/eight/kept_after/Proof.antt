@@ -1,6 +1,6 @@
 -- `paper::eight::kept_after` meets its contract.
 use Rattle.paper.specs.Shifts.{keptAfter, weightOf}
-use Rattle.paper.proofs.Lines.{eight}
+use Rattle.paper.proofs.LineLaws.{eight}
 use borrow.Author.Needs.{needs}
 use Rattle.paper.proofs.eight.kept_after.Statement.{statement}
 use Rattle.paper.proofs.eight.kept_after.Tie as tie

@@ -4,7 +4,7 @@ use native.Mathlib.Omega.{arith}
 use mathlib.Core.Path.{_≡_, _∙_}
 use borrow.Author.Needs.{needs}
 use Rattle.paper.specs.Lists.{table}
-use Rattle.paper.proofs.Lines.{made, made-start, made-more, made-end}
+use Rattle.paper.proofs.LineLaws.{made, made-start, made-more, made-end}
 use Rattle.paper.proofs.eight.kept_from.Statement.{statement}
 use Rattle.paper.proofs.eight.kept_from.Tie as tie
 

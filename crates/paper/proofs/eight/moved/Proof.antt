@@ -1,6 +1,6 @@
 -- `paper::eight::moved` meets its contract.
 use Rattle.paper.specs.Shifts.{movedBy}
-use Rattle.paper.proofs.Lines.{eight}
+use Rattle.paper.proofs.LineLaws.{eight}
 use borrow.Author.Needs.{needs}
 use Rattle.paper.proofs.eight.moved.Statement.{statement}
 use Rattle.paper.proofs.eight.moved.Tie as tie

@@ -1,7 +1,7 @@
 -- `paper::eight::replaced` meets its contract.
 use borrow.Author.Needs.{needs}
 use Rattle.paper.specs.Shifts.{replacedBy}
-use Rattle.paper.proofs.Lines.{eight}
+use Rattle.paper.proofs.LineLaws.{eight}
 use Rattle.paper.proofs.eight.replaced.Statement.{statement}
 use Rattle.paper.proofs.eight.replaced.Tie as tie
 

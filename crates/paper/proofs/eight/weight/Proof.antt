@@ -1,6 +1,6 @@
 -- `paper::eight::weight` meets its contract.
 use Rattle.paper.specs.Shifts.{weightOf}
-use Rattle.paper.proofs.Lines.{eight-weighed}
+use Rattle.paper.proofs.LineLaws.{eight-weighed}
 use mathlib.Core.Path.{_≡_}
 use lib.ListN.{length}
 use borrow.Author.Needs.{needs}

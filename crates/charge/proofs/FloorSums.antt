@@ -1,0 +1,98 @@
+-- The law of the loop that takes the least of A and the floors of a set.
+use Prim.Native.Nat.{ℕ, suc, _+_, _-_, _*_, _≤_, _<_, min}
+use native.Mathlib.Omega.{arith}
+use native.Mathlib.Numerals.{add-one}
+use mathlib.Core.Path.{_≡_, refl, _∙_, ap}
+use mathlib.Core.Logic.{_≢_}
+use mathlib.Core.List.{List}
+use borrow.Author.Tests.{eq-eqb, ne-eqb}
+use lib.ListN.{getD}
+use Rattle.paper.specs.declared.Trailer.{Trailer}
+use Rattle.paper.specs.Lists.{lowestTo}
+use Rattle.paper.specs.Cases.{Case}
+use Rattle.paper.specs.Bounds.{floorOf, A, M, floorAt, setBound}
+use Rattle.paper.specs.Files.{caseOf}
+use Rattle.paper.proofs.Sums.{Lowest, lowest-start, lowest-more}
+use Rattle.formulas.specs.Largest.{largestVisits, largestEntered, largestM, largestA}
+use Rattle.charge.specs.Sizes as Sizes
+use Rattle.charge.specs.Summed.{Summed}
+use Rattle.charge.specs.Tables.{placeOf}
+use Rattle.charge.proofs.Small.{fact-head, charged-small, entered-small, fetched-small, spent-small}
+use Rattle.charge.proofs.SetTables.{A-is, M-start, M-more}
+
+-- the loop has come to j, with m = M(j) and x the least so far
+pub record Flooring (e : Case) (q a m x j : ℕ) : Type 0 where
+  pub lowest : Lowest (floorAt e q) a (e .ways) x j
+  pub sum : m ≡ M e j q
+  pub small : m ≤ largestVisits + largestEntered * j
+
+module _ (f : List ℕ) (t : Trailer) (charged entered fetched spent : List ℕ) (s : Summed f t charged entered fetched spent) (q : ℕ) (hq : q < Sizes.sets) where
+  sum-A : getD charged q 0 + getD spent (placeOf q Sizes.noLimit) 0 ≡ A (caseOf f t) q
+  unfolding caseOf
+  sum-A = A-is (caseOf f t) (fact-head f t (s .laid) (s .sound)) (s .laid .ways-high) q charged entered fetched spent (s .facts) (s .nodes) hq
+
+  pub A-small : getD charged q 0 + getD spent (placeOf q Sizes.noLimit) 0 ≤ largestA
+  A-small =
+      omega (
+        arith,
+        charged-small f t (s .laid) (s .sound) charged entered (s .facts) q hq,
+        spent-small f t (s .laid) (s .sound) fetched spent (s .nodes) (placeOf q Sizes.noLimit) (omega arith),
+      )
+
+  pub fifo-set :
+      (r : ℕ) → t .policy ≡ 1 → r ≡ lowestTo (floorAt (caseOf f t) q) (getD charged q 0 + getD spent (placeOf q Sizes.noLimit) 0) (t .ways)
+      → r ≡ setBound (caseOf f t) q
+  unfolding caseOf setBound
+  fifo-set r h e = rw (eq-eqb (t .policy) 1 h) (e ∙ ap (λ x. lowestTo (floorAt (caseOf f t) q) x (t .ways)) sum-A)
+
+  pub other-set : t .policy ≢ 1 → getD charged q 0 + getD spent (placeOf q Sizes.noLimit) 0 ≡ setBound (caseOf f t) q
+  unfolding caseOf setBound
+  other-set h = rw (ne-eqb (t .policy) 1 h) sum-A
+
+  pub flooring-start : (a : ℕ) → Flooring (caseOf f t) q a (getD fetched q 0) a 0
+  unfolding caseOf
+  flooring-start a =
+      record {
+        lowest = lowest-start (floorAt (caseOf f t) q) a (t .ways);
+        sum = M-start (caseOf f t) (fact-head f t (s .laid) (s .sound)) (s .laid .ways-high) q charged entered fetched spent (s .facts) (s .nodes) hq;
+        small = omega (arith, fetched-small f t (s .laid) (s .sound) fetched spent (s .nodes) q hq);
+      }
+
+  module _ (a m x j : ℕ) (w : Flooring (caseOf f t) q a m x j) (h : j < t .ways) where
+    abbrev in-E : ℕ
+    in-E = getD entered (placeOf q (j + 1)) 0
+
+    abbrev out : ℕ
+    out = getD spent (placeOf q (j + 1)) 0
+
+    next-M : m + in-E ≡ M (caseOf f t) (suc j) q + out
+    unfolding caseOf
+    next-M =
+        rw (add-one, w .sum)
+        (M-more (caseOf f t) (fact-head f t (s .laid) (s .sound)) (s .laid .ways-high) q charged entered fetched spent (s .facts) (s .nodes) hq j (omega (arith, s .laid .ways-high)))
+
+    -- nothing is taken that is not there
+    pub out-fits : out ≤ m + in-E
+    out-fits = omega (arith, next-M)
+
+    pub in-small : m + in-E ≤ largestVisits + largestEntered * (j + 1)
+    in-small =
+        omega (
+          arith,
+          w .small,
+          entered-small f t (s .laid) (s .sound) charged entered (s .facts) (placeOf q (j + 1)) (omega (arith, s .laid .ways-high)),
+        )
+
+    pub next-small : m + in-E - out ≤ largestM
+    next-small = omega (arith, in-small, s .laid .ways-high)
+
+    pub flooring-more :
+        (n y r : ℕ) → n ≡ m + in-E - out → y ≡ floorOf (t .ways) (j + 1) n → r ≡ min x y → Flooring (caseOf f t) q a n r (j + 1)
+    unfolding caseOf floorAt
+    flooring-more n y r en ey er =
+        let eM : n ≡ M (caseOf f t) (suc j) q = omega (arith, next-M, en) in
+        record {
+          lowest = lowest-more (floorAt (caseOf f t) q) a (t .ways) x j y r (w .lowest) h (ey ∙ rw (add-one, eM) refl) er;
+          sum = rw add-one eM;
+          small = omega (arith, in-small, en);
+        }

@@ -1,0 +1,49 @@
+use Prim.Native.Nat.{_-_, _≤_}
+use borrow.Author.Needs.{needs}
+use borrow.Author.Tests.{eq-eqb, ne-eqb}
+use mathlib.Core.Path.{refl, ap}
+use mathlib.Core.Bool.{not}
+use Rattle.paper.specs.Files.{rowAt}
+use Rattle.paper.proofs.Least.{Passed, passed-more, some-found, some-end}
+use Rattle.evidence.specs.RowParts.{unfree}
+use Rattle.evidence.proofs.Slots.{unfree-before, unfree-at}
+use Rattle.evidence.proofs.rows.bad_rest.Statement.{statement}
+use Rattle.evidence.proofs.rows.bad_rest.Tie as tie
+
+abbrev Inv-loop : tie.InvT-loop
+Inv-loop file at n k₀ k = Passed (unfree n (rowAt file at)) 7 k × (n ≤ k)
+
+abbrev μ-loop : tie.MeasureT-loop
+μ-loop file at n k₀ k = 7 - k
+
+loop-holds : tie.Need-loop-holds Inv-loop μ-loop
+loop-holds c = (record { within = search needs; none = unfree-before _ _ }, search needs)
+
+returns : tie.Need-returns Inv-loop μ-loop
+returns c =
+    some-found _ _ _ (c .before .before .before .loop .inv .0) _ (c .before .before .loop-test .taken)
+    (unfree-at _ _ _ _ _ (c .before .before .before .loop .inv .1) (c .before .slot-at .ensures) (ap not (ne-eqb _ _ (c .if1 .taken)))) refl
+
+loop-again : tie.Need-loop-again Inv-loop μ-loop
+loop-again c = (
+  passed-more _ _ _ _ (c .before .before .before .loop .inv .0) (c .before .before .loop-test .taken)
+      (unfree-at _ _ _ _ _ (c .before .before .before .loop .inv .1) (c .before .slot-at .ensures) (ap not (eq-eqb _ _ (c .if1 .left)))) refl,
+  search needs,
+)
+
+returns-2 : tie.Need-returns-2 Inv-loop μ-loop
+returns-2 c = some-end _ _ _ (c .before .loop .inv .0) (c .loop-test .left)
+
+pub bad-rest-spec : {M : Type 1} → statement M
+bad-rest-spec =
+    tie.close
+    (tie.spec
+    Inv-loop
+    μ-loop
+    loop-holds
+    (λ c κs. search needs)
+    returns
+    (λ c. search needs)
+    (λ c. search needs)
+    loop-again
+    returns-2)

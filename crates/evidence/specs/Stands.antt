@@ -1,0 +1,41 @@
+-- What is known of the fact at hand when its nodes, rows and edges are looked at.
+use Prim.Native.Nat.{ℕ, suc, _-_, _%_, _≤_, _<_}
+use mathlib.Core.Path.{_≡_}
+use mathlib.Core.Bool.{false}
+use mathlib.Core.List.{List}
+use Rattle.paper.specs.declared.Trailer.{Trailer}
+use Rattle.paper.specs.declared.Loop.{Loop}
+use Rattle.paper.specs.Cases.{Fact, rangeOf}
+use Rattle.paper.specs.Files.{endAt, rowPlace, loopAt, factAt, caseOf}
+use Rattle.paper.specs.Facts.{badRowAt}
+use Rattle.evidence.specs.declared.Head.{Head}
+
+-- the scope of the fact that stands at p
+abbrev pub scopeAt : List ℕ → Trailer → ℕ → Loop
+scopeAt f t p = rangeOf (t .nodes) (loopAt f t) (factAt f p .scope)
+
+-- the fact itself
+abbrev pub factOf : List ℕ → Head → Fact
+factOf f h = factAt f (h .place)
+
+-- how many nodes its scope has
+abbrev pub nodesOf : Head → ℕ
+nodesOf h = suc (h .last) - h .first
+
+-- The head is that of the fact that stands at its place, and the scope is a range of nodes of the graph.
+pub record Stands (f : List ℕ) (t : Trailer) (h : Head) : Type 0 where
+  pub first : h .first ≡ scopeAt f t (h .place) .first
+  pub last : h .last ≡ scopeAt f t (h .place) .last
+  pub block : h .block ≡ factOf f h .block
+  pub limit : h .limit ≡ factOf f h .limit
+  pub home : h .home ≡ h .block % t .sets
+  pub rises : h .first ≤ h .last
+  pub within : h .last < t .nodes
+
+-- Rule 15 is passed: its rows end before the trailer.
+pub record Whole (f : List ℕ) (h : Head) : Type 0 where
+  pub room : rowPlace (h .place) (nodesOf h) ≤ endAt f
+
+-- Rule 16 is passed: its rows are sound.
+pub record SoundRows (f : List ℕ) (t : Trailer) (h : Head) : Type 0 where
+  pub sound : (j : ℕ) → j < nodesOf h → badRowAt (caseOf f t) (factOf f h) j ≡ false

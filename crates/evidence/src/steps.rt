@@ -1,0 +1,165 @@
+// Rule 17: the rows at the ends of the edges inside a scope.
+ghost use mathlib.Core.Path.{_≡_};
+ghost use Prim.Native.Nat.{_<_};
+ghost use Rattle.paper.specs.Lists.{some};
+ghost use Rattle.paper.specs.Files as Files;
+ghost use Rattle.paper.specs.Facts as Facts;
+ghost use Rattle.paper.specs.Known.{Laid, Shaped};
+ghost use Rattle.evidence.specs.Stands.{factOf, nodesOf, Stands, Whole, SoundRows};
+ghost use Rattle.evidence.specs.Edges.{Splits, From};
+ghost use Rattle.evidence.specs.RowParts.{SetAt, RisingAt, missing, forgets, breaksAt};
+use crate::Head;
+use crate::rows::row_at;
+use paper::Trailer;
+
+// The row at `at`, a set of n blocks, holds x.
+fn holds(file: &[u8], at: usize, n: u16, x: u16) -> bool
+    requires { ⌜ SetAt (now file) at n ⌝ }
+    ensures { λ r. ⌜ r ≡ Facts.holds (Files.rowAt (now (file .entry)) at) x ⌝ }
+{
+    let mut k: u16 = 0;
+    while k < n {
+        if layout::slot_at(file, at, k) == x {
+            return true;
+        }
+        k += 1;
+    }
+    false
+}
+
+// The set at s lacks one of the n blocks of the set at r. Both rise, so one pass over the m blocks of s is enough.
+fn drops(file: &[u8], r: usize, n: u16, s: usize, m: u16) -> bool
+    requires { ⌜ RisingAt (now file) r n ⌝ }
+    requires { ⌜ RisingAt (now file) s m ⌝ }
+    ensures { λ b. ⌜ b ≡ some (missing (Files.rowAt (now (file .entry)) r) (Files.rowAt (now (file .entry)) s)) n ⌝ }
+{
+    let mut i: u16 = 0;
+    let mut j: u16 = 0;
+    while i < n {
+        if m <= j {
+            return true;
+        }
+        let x = layout::slot_at(file, r, i);
+        let y = layout::slot_at(file, s, j);
+        if x < y {
+            return true;
+        }
+        if x == y {
+            i += 1;
+        }
+        j += 1;
+    }
+    false
+}
+
+// Node u's block x is not none, of b's set, and the set at s lacks it.
+fn lost(file: &[u8], t: Trailer, h: Head, x: u16, s: usize, m: u16) -> bool
+    requires { ⌜ Laid (now file) t ⌝ }
+    requires { ⌜ Stands (now file) t h ⌝ }
+    requires { ⌜ SetAt (now file) s m ⌝ }
+    ensures { λ b. ⌜ b ≡ forgets (Files.caseOf (now (file .entry)) t) (factOf (now (file .entry)) h) x (Files.rowAt (now (file .entry)) s) ⌝ }
+{
+    if x == 65535 {
+        return false;
+    }
+    if paper::home(x, t.sets) != h.home {
+        return false;
+    }
+    !holds(file, s, m, x)
+}
+
+// 17, for an edge from the scope's node i, which fetches x, to its node j.
+fn breaks(file: &[u8], t: Trailer, h: Head, x: u16, i: u16, j: u16) -> bool
+    requires { ⌜ Laid (now file) t ⌝ }
+    requires { ⌜ Stands (now file) t h ⌝ }
+    requires { ⌜ Whole (now file) h ⌝ }
+    requires { ⌜ SoundRows (now file) t h ⌝ }
+    requires { ⌜ (i < nodesOf h) × (j < nodesOf h) ⌝ }
+    ensures { λ b. ⌜ b ≡ breaksAt (now (file .entry)) t h x i j ⌝ }
+{
+    let s = row_at(file, h, j);
+    let m = layout::number_at(file, s);
+    if x == h.block {
+        return m == 9;
+    }
+    let r = row_at(file, h, i);
+    let n = layout::number_at(file, r);
+    if n == 9 {
+        return false;
+    }
+    if n == 8 {
+        return m != 8;
+    }
+    if 8 <= m {
+        return m != 8;
+    }
+    if lost(file, t, h, x, s, m) {
+        return true;
+    }
+    drops(file, r, n, s, m)
+}
+
+// The first edge from node v or a later one: edges rise by from.
+fn first_edge(file: &[u8], t: Trailer, v: u16) -> u16
+    requires { ⌜ Laid (now file) t ⌝ }
+    requires { ⌜ Shaped (Files.caseOf (now file) t) ⌝ }
+    ensures { λ r. ⌜ Splits (now (file .entry)) t v r r ⌝ }
+{
+    let mut low: u16 = 0;
+    let mut high: u16 = t.edges;
+    while low < high {
+        let middle = (low + high) / 2;
+        if layout::from_at(file, t, middle) < v {
+            low = middle + 1;
+        } else {
+            high = middle;
+        }
+    }
+    low
+}
+
+// 17, for edge i, which comes from the scope's node u.
+fn bad_step(file: &[u8], t: Trailer, h: Head, i: u16, u: u16) -> bool
+    requires { ⌜ Laid (now file) t ⌝ }
+    requires { ⌜ Stands (now file) t h ⌝ }
+    requires { ⌜ Whole (now file) h ⌝ }
+    requires { ⌜ SoundRows (now file) t h ⌝ }
+    requires { ⌜ From (now file) t h i u ⌝ }
+    ensures { λ b. ⌜ b ≡ Facts.badStepAt (Files.caseOf (now (file .entry)) t) (factOf (now (file .entry)) h) i ⌝ }
+{
+    let v = layout::to_at(file, t, i);
+    if (v < h.first) | (h.last < v) {
+        return false;
+    }
+    breaks(
+        file,
+        t,
+        h,
+        layout::node_at(file, t, u),
+        u - h.first,
+        v - h.first,
+    )
+}
+
+// 17: "an edge's rule broken". The edges from nodes of the scope stand together.
+pub fn bad_steps(file: &[u8], t: Trailer, h: Head) -> bool
+    requires { ⌜ Laid (now file) t ⌝ }
+    requires { ⌜ Shaped (Files.caseOf (now file) t) ⌝ }
+    requires { ⌜ Stands (now file) t h ⌝ }
+    requires { ⌜ Whole (now file) h ⌝ }
+    requires { ⌜ SoundRows (now file) t h ⌝ }
+    ensures { λ b. ⌜ b ≡ some (Facts.badStepAt (Files.caseOf (now (file .entry)) t) (factOf (now (file .entry)) h)) (t .edges) ⌝ }
+{
+    let mut i = first_edge(file, t, h.first);
+    while i < t.edges {
+        let u = layout::from_at(file, t, i);
+        if h.last < u {
+            return false;
+        }
+        if bad_step(file, t, h, i, u) {
+            return true;
+        }
+        i += 1;
+    }
+    false
+}

@@ -1,8 +1,0 @@
-pub mod Climbs
-pub mod Scopes
-pub mod Slots
-pub mod Sets
-pub mod OneRow
-pub mod OneEdge
-pub mod OneStep
-pub mod Halves

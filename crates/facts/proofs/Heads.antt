@@ -1,0 +1,80 @@
+-- What is read of the head of the fact that stands at p.
+use Prim.Native.Nat.{ℕ, _+_, _%_, _≤_, _<_}
+use native.Mathlib.Omega.{arith}
+use native.Mathlib.Decide.{ℕ-discrete}
+use mathlib.Core.Path.{_≡_, refl, sym, _∙_, ap, subst}
+use mathlib.Core.Logic.{_≢_}
+use mathlib.Core.Bool.{Bool, false}
+use mathlib.Core.List.{List}
+use lib.Dec.{ltb}
+use borrow.Author.Tests.{eq-eqb, ne-eqb}
+use Rattle.paper.specs.declared.Trailer.{Trailer}
+use Rattle.paper.specs.declared.Previous.{Previous}
+use Rattle.paper.specs.declared.Loop.{Loop}
+use Rattle.paper.specs.declared.Verdict.{Verdict}
+use Rattle.paper.specs.declared.Verdict.the-variants.{Accepted}
+use Rattle.paper.specs.Machines.{none}
+use Rattle.paper.specs.Cases.{rangeOf}
+use Rattle.paper.specs.Files.{endAt, loopAt, factAt, caseOf}
+use Rattle.paper.specs.Facts.{wrongHead, wrongOrder, badHead, badOrder}
+use Rattle.paper.specs.Known.{Laid, Shaped}
+use Rattle.paper.specs.Rules.{rule}
+use Rattle.paper.specs.Verdicts.{headRule, orderRule, bodyRules, turnRules}
+use Rattle.paper.proofs.FactLaws.{head-sound}
+use Rattle.evidence.specs.Stands.{scopeAt, Stands}
+use Rattle.facts.specs.declared.Names.{Names}
+use Rattle.facts.specs.Turns.{namesAt}
+
+module _ (f : List ℕ) (t : Trailer) (p : ℕ) (n : Names) (x : n ≡ namesAt f p) where
+  -- 12 at the fact's place
+  pub head-is : wrongHead (t .loops) (t .ways) (n .scope) (n .block) (n .limit) ≡ badHead (caseOf f t) (factAt f p)
+  unfolding badHead caseOf
+  head-is = rw x refl
+
+  module _ (s : Loop) (a : s ≡ rangeOf (t .nodes) (loopAt f t) (n .scope)) where
+    scope-is : s ≡ scopeAt f t p
+    scope-is = a ∙ ap (λ (n : Names). rangeOf (t .nodes) (loopAt f t) (n .scope)) x
+
+    -- 13 at the fact's place
+    pub order-is : (previous : Previous) → wrongOrder previous (n .block) (s .first) ≡ badOrder (caseOf f t) previous (factAt f p)
+    unfolding badOrder caseOf
+    order-is previous = rw (scope-is, x) refl
+
+  module _ (e : badHead (caseOf f t) (factAt f p) ≡ false) where
+    -- a fact that passes 12 names a loop or the whole graph
+    pub named : n .scope ≢ none → n .scope < t .loops
+    unfolding caseOf
+    named q =
+        let s : n .scope ≡ factAt f p .scope = ap (λ (n : Names). n .scope) x in
+        omega (arith, head-sound (caseOf f t) (factAt f p) e .scope (λ k. q (s ∙ k)))
+
+    fits-at : Laid f t → Shaped (caseOf f t) → let s = rangeOf (t .nodes) (loopAt f t) (n .scope) in (s .first ≤ s .last) × (s .last < t .nodes)
+    unfolding rangeOf caseOf
+    fits-at laid shape =
+        elim (ℕ-discrete (n .scope) none) [
+          | yes k ↦ rw (eq-eqb (n .scope) none k) (omega (arith, laid .nodes-low))
+          | no k ↦ rw (ne-eqb (n .scope) none k) (let w = shape .fits (n .scope) (named k) in (w .0, w .1))
+        ]
+
+    pub stands :
+        (s : Loop) → s ≡ rangeOf (t .nodes) (loopAt f t) (n .scope) → Laid f t → Shaped (caseOf f t) → (h : ℕ) → h ≡ n .block % t .sets →
+        Stands f t (record { place = p; first = s .first; last = s .last; block = n .block; limit = n .limit; home = h })
+    stands s a laid shape h o =
+        let k = subst (λ (s : Loop). (s .first ≤ s .last) × (s .last < t .nodes)) (sym a) (fits-at laid shape) in
+        record {
+          first = ap (λ (s : Loop). s .first) (scope-is s a);
+          last = ap (λ (s : Loop). s .last) (scope-is s a);
+          block = ap (λ (n : Names). n .block) x;
+          limit = ap (λ (n : Names). n .limit) x;
+          home = o;
+          rises = k .0;
+          within = k .1;
+        }
+
+-- the turn's chain, by the outcomes a, b and c of its first tests
+pub turn-is :
+    (f : List ℕ) (t : Trailer) (i : ℕ) (previous : Previous) (p : ℕ) (a b c : Bool) (v : Verdict) →
+    a ≡ ltb (endAt f) (p + 6) → b ≡ badHead (caseOf f t) (factAt f p) → c ≡ badOrder (caseOf f t) previous (factAt f p) → v ≡ bodyRules f t i p Accepted →
+    rule 11 i a (rule 12 i b (rule 13 i c v)) ≡ turnRules f t i previous p Accepted
+unfolding turnRules headRule orderRule
+turn-is f t i previous p a b c v x y z o = cc

@@ -1,0 +1,4 @@
+pub mod Told
+pub mod Heads
+pub mod Bodies
+pub mod Walk

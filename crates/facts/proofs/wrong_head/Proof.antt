@@ -1,0 +1,12 @@
+use mathlib.Core.Path.{refl}
+use borrow.Author.Needs.{needs}
+use Rattle.paper.specs.Facts.{wrongHead}
+use Rattle.facts.proofs.wrong_head.Statement.{statement}
+use Rattle.facts.proofs.wrong_head.Tie as tie
+
+returns : tie.Need-returns
+unfolding wrongHead
+returns c = refl
+
+pub wrong-head-spec : {M : Type 1} → statement M
+wrong-head-spec = tie.close (tie.spec (λ c. search needs) returns)

@@ -1,0 +1,55 @@
+-- Rules 6 to 19 put together: what the graph's verdict and the facts' verdict say of the file's.
+use Prim.Native.Nat.{ℕ, _<_}
+use mathlib.Core.Path.{_≡_, refl, sym, _∙_}
+use mathlib.Core.List.{List, _++_}
+use lib.ListN.{drop}
+use Rattle.paper.specs.declared.Refusal.{Refusal}
+use Rattle.paper.specs.declared.Trailer.{Trailer}
+use Rattle.paper.specs.declared.Verdict.{Verdict}
+use Rattle.paper.specs.declared.Verdict.the-variants.{Accepted, Refused}
+use Rattle.paper.specs.Bounds.{numbers}
+use Rattle.paper.specs.Files.{factPlace, caseOf}
+use Rattle.paper.specs.Known.{Laid, Shaped}
+use Rattle.paper.specs.Verdicts.{graphRules, factRules}
+use Rattle.paper.proofs.Meaning.{Sound}
+use Rattle.paper.proofs.RuleLaws.{accepted-on, refused-on}
+use Rattle.paper.proofs.VerdictLaws.{graph-kept, facts-kept, hands-graph, KeptFact}
+use Rattle.charge.specs.Placed.{Placed}
+use Rattle.ruling.specs.Ruled.{Ruled}
+
+-- the graph's verdict is v
+module _ (f : List ℕ) (t : Trailer) (v : Verdict) (a : v ≡ graphRules (caseOf f t) Accepted) where
+  pub graph-refused : (lent : List ℕ) (r : Refusal) → v ≡ Refused r → Ruled f t lent (Refused r) lent
+  graph-refused lent r e = record { answer = sym (refused-on (graphRules (caseOf f t)) (hands-graph (caseOf f t)) _ v a r e); numbers = refl }
+
+  module _ (e : v ≡ Accepted) where
+    pub graph-shaped : Shaped (caseOf f t)
+    graph-shaped = graph-kept (caseOf f t) Accepted (sym a ∙ e) .0
+
+    onward : (rest : Verdict) → graphRules (caseOf f t) rest ≡ rest
+    onward rest = accepted-on (graphRules (caseOf f t)) (hands-graph (caseOf f t)) rest v a e
+
+    -- the facts' verdict is w
+    module _ (w : Verdict) (b : w ≡ factRules f t Accepted) where
+      pub facts-refused : (lent : List ℕ) (r : Refusal) → w ≡ Refused r → Ruled f t lent (Refused r) lent
+      facts-refused lent r g = record { answer = sym (onward _ ∙ sym b ∙ g); numbers = refl }
+
+      module _ (g : w ≡ Accepted) where
+        kept : (i : ℕ) → i < t .facts → KeptFact f t (factPlace f t i)
+        kept = facts-kept f t Accepted (sym b ∙ g)
+
+        pub case-sound : Laid f t → Sound (caseOf f t)
+        unfolding caseOf
+        case-sound l =
+            record {
+              cache = l .cache;
+              nodes = l .nodes-low;
+              graph = graph-kept (caseOf f t) Accepted (sym a ∙ e) .1;
+              facts = λ i h. kept i h .sound;
+            }
+
+        pub facts-placed : Placed f t
+        facts-placed = record { ends = λ i h. kept i h .room }
+
+        pub judged : (lent after : List ℕ) → after ≡ numbers (caseOf f t) ++ drop 321 lent → Ruled f t lent Accepted after
+        judged lent after n = record { answer = sym (onward _ ∙ sym b ∙ g); numbers = n }
