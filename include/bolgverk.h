@@ -63,32 +63,30 @@ uint8_t bolgverk_block_of(uint32_t address, uint32_t line_size, uint16_t *block)
  * Returns 0, or the refusal's number: 3 where sets is not 1 to 64, 21 for block 65,535, tested in this order. Its place is 0. */
 uint8_t bolgverk_set_of(uint16_t block, uint8_t sets, uint8_t *set);
 
-/* The refusals: number, when it is given, what its place is. Each number has the least place where it holds.
- *    1  the file has fewer than 32 bytes                                                                       0
- *    2  the trailer's letters or version are wrong                                                             0
- *    3  policy, ways or sets out of range                                                                      0
- *    4  a number of nodes, edges, loops or facts out of range                                                  0
- *    5  an offset is wrong, or the facts would start past the trailer                                          0
- *    6  an edge's end is no node, or the edge does not come after the one before it                            the edge
- *    7  a loop's first node above its last, its last no node, its bound out of range, its first node not
- *       above that of the loop before it, or it crosses an earlier loop                                        the loop
- *    8  a forward edge enters a loop beside its header                                                         the edge
- *    9  a backward edge does not lead to a header of a loop around its source                                  the edge
- *   10  a node's count is above 4,294,967,295                                                                  the node
- *   11  fewer than 6 bytes are left for a fact                                                                 the fact
- *   12  a fact's loop number, block or age limit out of range                                                  the fact
- *   13  a fact's block is below the previous fact's, or equal and its scope starts at or before the previous
- *       scope's last node                                                                                      the fact
- *   14  no node of a fact's scope fetches its block                                                            the fact
- *   15  a fact's rows are cut short                                                                            the fact
- *   16  a row is not sound                                                                                     the fact
- *   17  two rows break the rule of an edge between their nodes                                                 the fact
- *   18  a node that fetches the fact's block has row 8                                                         the fact
- *   19  bytes are left between the last fact and the trailer                                                   0
- *   20  the lent list is too short: 321 numbers, or one byte an access                                         0
- *   21  block 65,535 is accessed, or an address's block is above 65,534                                        the access, else 0
- *   22  the set's state is not legal                                                                           0
- *   23  the line size is none of 8, 16, 32, 64, 128                                                            0
+/* The refusals, in README.md's words: number, what is wrong, the place. The least place where it holds is given.
+ *    1  the file has fewer than 32 bytes                                                                     0
+ *    2  the trailer's letters or version are wrong                                                           0
+ *    3  policy, ways or sets out of range                                                                    0
+ *    4  a number of nodes, edges, loops or facts out of range                                                0
+ *    5  an offset is wrong, or the facts would start past the trailer                                        0
+ *    6  an edge's end is no node, or the edge does not come after the one before it                          edge
+ *    7  a loop: its range, its bound, its order, or it crosses an earlier one                                loop
+ *    8  a forward edge enters a loop beside its header                                                       edge
+ *    9  a backward edge does not lead to the header of a loop around its source                              edge
+ *   10  a node's count is above 4,294,967,295                                                                node
+ *   11  fewer than 6 bytes are left for a fact                                                               fact
+ *   12  a fact's loop number, block or age limit out of range                                                fact
+ *   13  a fact does not come after the one before it                                                         fact
+ *   14  no node of a fact's scope fetches its block                                                          fact
+ *   15  a fact's rows are cut short                                                                          fact
+ *   16  a row is not sound                                                                                   fact
+ *   17  two rows break the rule of an edge between their nodes                                               fact
+ *   18  a node that fetches the fact's block has row 8 ("many")                                              fact
+ *   19  bytes are left between the last fact and the trailer                                                 0
+ *   20  the lent list is too short                                                                           0
+ *   21  block 65,535 is accessed, or an address's block is above 65,534                                      access, else 0
+ *   22  the set's state is not legal                                                                         0
+ *   23  the line size is not listed                                                                          0
  */
 
 #ifdef __cplusplus
