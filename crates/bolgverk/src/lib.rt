@@ -4,6 +4,7 @@ use layout::Layout;
 use paper::Address;
 use paper::Block;
 use paper::BlockAnswer;
+use paper::LIST_LENGTH;
 use paper::SetAnswer;
 use paper::SetState;
 use paper::StepAnswer;
@@ -39,15 +40,15 @@ pub fn trace_run(policy: u8, ways: u8, sets: u8, blocks: &[u16], marks: &mut [u8
 }
 
 // "The check tests 20 first, then 1 to 10 in order, each over the whole file; then for each fact in turn 11 to 18; then 19."
-pub fn check(file: &[u8], bounds: &mut [u64]) -> Verdict
-    ensures { λ r. ⌜ CheckPromise (now (file .entry)) (now (bounds .entry)) r (now (bounds .exit)) ⌝ }
+pub fn check(file: &[u8], numbers: &mut [u64]) -> Verdict
+    ensures { λ r. ⌜ CheckPromise (now (file .entry)) (now (numbers .entry)) r (now (numbers .exit)) ⌝ }
 {
-    if bounds.len() < 321 {
+    if numbers.len() < LIST_LENGTH {
         return Verdict::Refused(paper::refuse(20, 0));
     }
     let read = layout::layout_of(file);
     match read {
-        Layout::Read(t) => ruling::rule_on(file, t, bounds),
+        Layout::Read(t) => ruling::rule_on(file, t, numbers),
         Layout::Refused(r) => Verdict::Refused(r),
     }
 }

@@ -21,17 +21,17 @@ use Rattle.charge.proofs.SmallSums.{at-end}
 use Rattle.charge.proofs.Tallies.{grouped-more, grouped-open}
 
 -- a loop over the facts is at fact i, which stands at p
-pub record Adding (f : List ℕ) (t : Trailer) (old : List ℕ) (i p : ℕ) (cover charged entered bounds : List ℕ) : Type 0 where
+pub record Adding (f : List ℕ) (t : Trailer) (old : List ℕ) (i p : ℕ) (cover charged entered numbers : List ℕ) : Type 0 where
   pub within : i ≤ t .facts
   pub place : p ≡ factPlace f t i
   pub covered : Covered (caseOf f t) i cover
   pub added : FactsAdded (caseOf f t) i charged entered
-  pub part : Part (caseOf f t) 0 0 i old bounds
+  pub part : Part (caseOf f t) 0 0 i old numbers
 
-module _ (f : List ℕ) (t : Trailer) (old : List ℕ) (i p : ℕ) (cover charged entered bounds : List ℕ) (w : Adding f t old i p cover charged entered bounds) where
-  pub adding-end : t .facts ≤ i → Covered (caseOf f t) (t .facts) cover × (FactsAdded (caseOf f t) (t .facts) charged entered × Part (caseOf f t) 0 0 (t .facts) old bounds)
+module _ (f : List ℕ) (t : Trailer) (old : List ℕ) (i p : ℕ) (cover charged entered numbers : List ℕ) (w : Adding f t old i p cover charged entered numbers) where
+  pub adding-end : t .facts ≤ i → Covered (caseOf f t) (t .facts) cover × (FactsAdded (caseOf f t) (t .facts) charged entered × Part (caseOf f t) 0 0 (t .facts) old numbers)
   adding-end h =
-      at-end (λ n. Covered (caseOf f t) n cover × (FactsAdded (caseOf f t) n charged entered × Part (caseOf f t) 0 0 n old bounds)) i (t .facts) (w .within) h
+      at-end (λ n. Covered (caseOf f t) n cover × (FactsAdded (caseOf f t) n charged entered × Part (caseOf f t) 0 0 n old numbers)) i (t .facts) (w .within) h
       (w .covered, (w .added, w .part))
 
   pub adding-limits : Limits (caseOf f t) cover
@@ -60,7 +60,7 @@ module _ (f : List ℕ) (t : Trailer) (old : List ℕ) (i p : ℕ) (cover charge
       pub adding-more :
           (new charged′ entered′ : List ℕ) → Lowered (caseOf f t) (covers (caseOf f t) (factAt f p)) (factAt f p .limit) cover new
           → charged′ ≡ plus charged (k .block % t .sets) (k .bound) → entered′ ≡ plus entered (placeOf (k .block % t .sets) (k .limit)) (k .entered)
-          → Adding f t old (i + 1) (k .next) new charged′ entered′ (set bounds (factsFrom + i) (k .bound))
+          → Adding f t old (i + 1) (k .next) new charged′ entered′ (set numbers (factsFrom + i) (k .bound))
       unfolding caseOf costOf factPlace
       adding-more new charged′ entered′ low ec ee =
           rw (ec, ee, costs, w .place)
@@ -69,5 +69,5 @@ module _ (f : List ℕ) (t : Trailer) (old : List ℕ) (i p : ℕ) (cover charge
             place = rw add-one refl;
             covered = covered-more (caseOf f t) i cover new (w .covered) (rw (← w .place) low);
             added = grouped-more _ _ _ _ i charged entered (w .added) (set-low f t (r .laid) (r .sound) _) limit-low;
-            part = part-fact (caseOf f t) old i _ bounds (omega (arith, r .laid .facts-high)) refl (w .part);
+            part = part-fact (caseOf f t) old i _ numbers (omega (arith, r .laid .facts-high)) refl (w .part);
           })

@@ -13,11 +13,11 @@ use crate::chains;
 use crate::heads;
 use crate::outers;
 use crate::sizes::CHAINED;
-use crate::sizes::FACTS_FROM;
 use crate::sizes::LOOPS;
 use crate::sizes::NODES;
 use crate::sizes::SETS;
 use crate::sizes::SETS_BY_LIMITS;
+use paper::FACTS_FROM;
 use paper::Trailer;
 
 // What a fact costs, and where the next one stands.
@@ -70,17 +70,17 @@ fn charge_each(
     cover: &mut [u16; NODES],
     charged: &mut [u64; SETS],
     entered: &mut [u64; SETS_BY_LIMITS],
-    bounds: &mut [u64],
+    numbers: &mut [u64],
 )
     requires { ⌜ Ready (now file) t (now counts) ⌝ }
     requires { ⌜ NextOut.Outers (Files.caseOf (now file) t) (t .loops) (now outers) ⌝ }
     requires { ⌜ Chained.Chained (Files.caseOf (now file) t) (t .nodes) (now chain) ⌝ }
     requires { ⌜ Chained.Covered (Files.caseOf (now file) t) 0 (now cover) ⌝ }
     requires { ⌜ Tables.FactsAdded (Files.caseOf (now file) t) 0 (now charged) (now entered) ⌝ }
-    requires { ⌜ Tables.Part (Files.caseOf (now file) t) 0 0 0 (now bounds) (now bounds) ⌝ }
+    requires { ⌜ Tables.Part (Files.caseOf (now file) t) 0 0 0 (now numbers) (now numbers) ⌝ }
     ensures { λ r. ⌜ Chained.Covered (Files.caseOf (now (file .entry)) t) (t .facts) (now (cover .exit)) ⌝ }
     ensures { λ r. ⌜ Tables.FactsAdded (Files.caseOf (now (file .entry)) t) (t .facts) (now (charged .exit)) (now (entered .exit)) ⌝ }
-    ensures { λ r. ⌜ Tables.Part (Files.caseOf (now (file .entry)) t) 0 0 (t .facts) (now (bounds .entry)) (now (bounds .exit)) ⌝ }
+    ensures { λ r. ⌜ Tables.Part (Files.caseOf (now (file .entry)) t) 0 0 (t .facts) (now (numbers .entry)) (now (numbers .exit)) ⌝ }
 {
     let n = t.facts as usize;
     let mut p = layout::facts_at(t);
@@ -96,7 +96,7 @@ fn charge_each(
             c.bound,
             c.entered,
         );
-        bounds[FACTS_FROM + i] = c.bound;
+        numbers[FACTS_FROM + i] = c.bound;
         p = c.next;
         i += 1;
     }
@@ -110,15 +110,15 @@ pub fn charge_facts(
     cover: &mut [u16; NODES],
     charged: &mut [u64; SETS],
     entered: &mut [u64; SETS_BY_LIMITS],
-    bounds: &mut [u64],
+    numbers: &mut [u64],
 )
     requires { ⌜ Ready (now file) t (now counts) ⌝ }
     requires { ⌜ Chained.Covered (Files.caseOf (now file) t) 0 (now cover) ⌝ }
     requires { ⌜ Tables.FactsAdded (Files.caseOf (now file) t) 0 (now charged) (now entered) ⌝ }
-    requires { ⌜ Tables.Part (Files.caseOf (now file) t) 0 0 0 (now bounds) (now bounds) ⌝ }
+    requires { ⌜ Tables.Part (Files.caseOf (now file) t) 0 0 0 (now numbers) (now numbers) ⌝ }
     ensures { λ r. ⌜ Chained.Covered (Files.caseOf (now (file .entry)) t) (t .facts) (now (cover .exit)) ⌝ }
     ensures { λ r. ⌜ Tables.FactsAdded (Files.caseOf (now (file .entry)) t) (t .facts) (now (charged .exit)) (now (entered .exit)) ⌝ }
-    ensures { λ r. ⌜ Tables.Part (Files.caseOf (now (file .entry)) t) 0 0 (t .facts) (now (bounds .entry)) (now (bounds .exit)) ⌝ }
+    ensures { λ r. ⌜ Tables.Part (Files.caseOf (now (file .entry)) t) 0 0 (t .facts) (now (numbers .entry)) (now (numbers .exit)) ⌝ }
 {
     let mut outers: [u16; LOOPS] = [0; LOOPS];
     let mut chain: [u16; CHAINED] = [0; CHAINED];
@@ -133,6 +133,6 @@ pub fn charge_facts(
         cover,
         charged,
         entered,
-        bounds,
+        numbers,
     );
 }

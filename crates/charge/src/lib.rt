@@ -10,8 +10,8 @@ ghost use Rattle.paper.specs.Known.{Laid};
 ghost use Rattle.layout.specs.Counted.{Counted};
 ghost use Rattle.charge.specs.Placed.{Placed};
 ghost use Rattle.charge.specs.Tables as Tables;
+use paper::LIST_LENGTH;
 use paper::Trailer;
-use sizes::LIST_LENGTH;
 use sizes::NO_LIMIT;
 use sizes::NODES;
 use sizes::SETS;
@@ -27,32 +27,32 @@ mod sets;
 mod sizes;
 
 // All numbers 0.
-fn clear(bounds: &mut [u64])
-    requires { ⌜ Bounds.listLength ≤ length (now bounds) ⌝ }
-    ensures { λ r. ⌜ now (bounds .exit) ≡ Tables.zeros ++ drop Bounds.listLength (now (bounds .entry)) ⌝ }
+fn clear(numbers: &mut [u64])
+    requires { ⌜ Bounds.listLength ≤ length (now numbers) ⌝ }
+    ensures { λ r. ⌜ now (numbers .exit) ≡ Tables.zeros ++ drop Bounds.listLength (now (numbers .entry)) ⌝ }
 {
     let mut i: usize = 0;
     while i < LIST_LENGTH {
-        bounds[i] = 0;
+        numbers[i] = 0;
         i += 1;
     }
 }
 
 // All numbers: "the total, 64 set bounds, 256 fact bounds, unused ones 0, later ones untouched".
-pub fn charge(file: &[u8], t: Trailer, counts: &[u32], bounds: &mut [u64])
+pub fn charge(file: &[u8], t: Trailer, counts: &[u32], numbers: &mut [u64])
     requires { ⌜ Laid (now file) t ⌝ }
     requires { ⌜ Sound (Files.caseOf (now file) t) ⌝ }
     requires { ⌜ Placed (now file) t ⌝ }
     requires { ⌜ Counted (now file) t (now counts) ⌝ }
-    requires { ⌜ Bounds.listLength ≤ length (now bounds) ⌝ }
-    ensures { λ r. ⌜ now (bounds .exit) ≡ Bounds.numbers (Files.caseOf (now (file .entry)) t) ++ drop Bounds.listLength (now (bounds .entry)) ⌝ }
+    requires { ⌜ Bounds.listLength ≤ length (now numbers) ⌝ }
+    ensures { λ r. ⌜ now (numbers .exit) ≡ Bounds.numbers (Files.caseOf (now (file .entry)) t) ++ drop Bounds.listLength (now (numbers .entry)) ⌝ }
 {
     let mut cover: [u16; NODES] = [NO_LIMIT; NODES];
     let mut charged: [u64; SETS] = [0; SETS];
     let mut entered: [u64; SETS_BY_LIMITS] = [0; SETS_BY_LIMITS];
     let mut fetched: [u64; SETS] = [0; SETS];
     let mut spent: [u64; SETS_BY_LIMITS] = [0; SETS_BY_LIMITS];
-    clear(bounds);
+    clear(numbers);
     facts::charge_facts(
         file,
         t,
@@ -60,8 +60,8 @@ pub fn charge(file: &[u8], t: Trailer, counts: &[u32], bounds: &mut [u64])
         &mut cover,
         &mut charged,
         &mut entered,
-        bounds,
+        numbers,
     );
     nodes::charge_nodes(file, t, counts, &cover, &mut fetched, &mut spent);
-    sets::charge_sets(file, t, &charged, &entered, &fetched, &spent, bounds);
+    sets::charge_sets(file, t, &charged, &entered, &fetched, &spent, numbers);
 }

@@ -12,7 +12,7 @@ use crate::sizes::LIMITS;
 use crate::sizes::NO_LIMIT;
 use crate::sizes::SETS;
 use crate::sizes::SETS_BY_LIMITS;
-use crate::sizes::SETS_FROM;
+use paper::SETS_FROM;
 use paper::Trailer;
 
 // "the least of A and, for each l from 1 to k, floor(k·M(l)/(k-l+1))": M(l) is M(l-1), with the entries of the facts of limit l for the counts that they cover.
@@ -75,20 +75,20 @@ pub fn charge_sets(
     entered: &[u64; SETS_BY_LIMITS],
     fetched: &[u64; SETS],
     spent: &[u64; SETS_BY_LIMITS],
-    bounds: &mut [u64],
+    numbers: &mut [u64],
 )
     requires { ⌜ Summed (now file) t (now charged) (now entered) (now fetched) (now spent) ⌝ }
-    requires { ⌜ Tables.Part (Files.caseOf (now file) t) 0 0 (t .facts) (now bounds) (now bounds) ⌝ }
-    ensures { λ r. ⌜ Tables.Part (Files.caseOf (now (file .entry)) t) (Bounds.totalBound (Files.caseOf (now (file .entry)) t)) (t .sets) (t .facts) (now (bounds .entry)) (now (bounds .exit)) ⌝ }
+    requires { ⌜ Tables.Part (Files.caseOf (now file) t) 0 0 (t .facts) (now numbers) (now numbers) ⌝ }
+    ensures { λ r. ⌜ Tables.Part (Files.caseOf (now (file .entry)) t) (Bounds.totalBound (Files.caseOf (now (file .entry)) t)) (t .sets) (t .facts) (now (numbers .entry)) (now (numbers .exit)) ⌝ }
 {
     let n = t.sets as usize;
     let mut total: u64 = 0;
     let mut q: usize = 0;
     while q < n {
         let x = set_bound(file, t, charged, entered, fetched, spent, q);
-        bounds[SETS_FROM + q] = x;
+        numbers[SETS_FROM + q] = x;
         total += x;
         q += 1;
     }
-    bounds[0] = total;
+    numbers[0] = total;
 }

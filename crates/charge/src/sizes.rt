@@ -1,4 +1,4 @@
-// How large the tables are, and where the numbers stand in the lent list. The reasons stand in specs/Sizes and in the paper's Bounds.
+// How large the tables are. The reasons stand in specs/Sizes.
 pub const NODES: usize = 1024;
 
 pub const LOOPS: usize = 64;
@@ -14,9 +14,3 @@ pub const SETS_BY_LIMITS: usize = LIMITS * SETS;
 pub const BUCKETS: u16 = 1024;
 
 pub const CHAINED: usize = BUCKETS as usize + NODES;
-// "321 64-bit numbers": "the total, 64 set bounds, 256 fact bounds"
-pub const LIST_LENGTH: usize = 321;
-
-pub const SETS_FROM: usize = 1;
-
-pub const FACTS_FROM: usize = 65;

@@ -5,6 +5,7 @@ ghost use lib.Dec.{eqb};
 ghost use lib.ListN.{length, getD};
 ghost use Rattle.paper.specs.Lists.{least};
 ghost use Rattle.paper.specs.Graphs as Graphs;
+ghost use Rattle.paper.specs.Ceilings.{mostNodes};
 ghost use Rattle.paper.specs.Files.{caseOf};
 ghost use Rattle.paper.specs.Known.{Laid, Shaped};
 ghost use Rattle.layout.specs.Counted.{Counted};
@@ -31,7 +32,7 @@ fn first_zero(t: Trailer, table: &[u32]) -> u16
 pub fn first_bad_count(file: &[u8], t: Trailer, counts: &mut [u32]) -> u16
     requires { ⌜ Laid (now file) t ⌝ }
     requires { ⌜ Shaped (caseOf (now file) t) ⌝ }
-    requires { ⌜ 1024 ≤ length (now counts) ⌝ }
+    requires { ⌜ mostNodes ≤ length (now counts) ⌝ }
     ensures { λ r. ⌜ r ≡ least (Graphs.badCount (caseOf (now (file .entry)) t)) (t .nodes) ⌝ }
     ensures { λ r. ⌜ (t .nodes ≤ r → Counted (now (file .entry)) t (now (counts .exit))) ⌝ }
 {

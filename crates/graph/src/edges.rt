@@ -4,6 +4,7 @@ ghost use Prim.Native.Nat.{_≤_, _<_};
 ghost use lib.ListN.{length};
 ghost use Rattle.paper.specs.Lists.{least};
 ghost use Rattle.paper.specs.Graphs as Graphs;
+ghost use Rattle.paper.specs.Ceilings.{mostNodes};
 ghost use Rattle.paper.specs.Files.{caseOf};
 ghost use Rattle.paper.specs.Known.{Laid, Shaped};
 ghost use Rattle.graph.specs.Filled.{Holds};
@@ -73,7 +74,7 @@ pub fn edge_rule(file: &[u8], t: Trailer, table: &mut [u32], rule: u8) -> u16
     requires { ⌜ Laid (now file) t ⌝ }
     requires { ⌜ Shaped (caseOf (now file) t) ⌝ }
     requires { ⌜ rule < 10 ⌝ }
-    requires { ⌜ 1024 ≤ length (now table) ⌝ }
+    requires { ⌜ mostNodes ≤ length (now table) ⌝ }
     ensures { λ r. ⌜ r ≡ least (Marks.edgeRule (caseOf (now (file .entry)) t) rule) (t .edges) ⌝ }
 {
     mark_nodes(file, t, table, rule, 0);

@@ -2,6 +2,7 @@
 ghost use mathlib.Core.Path.{_≡_};
 ghost use Prim.Native.Nat.{_≤_};
 ghost use lib.ListN.{length};
+ghost use Rattle.paper.specs.Ceilings.{mostNodes};
 ghost use Rattle.paper.specs.Files.{caseOf};
 ghost use Rattle.paper.specs.Verdicts as Verdicts;
 ghost use Rattle.paper.specs.Known.{Laid, Shaped};
@@ -39,7 +40,7 @@ pub fn shape_rules(file: &[u8], t: Trailer) -> Verdict
 pub fn path_rules(file: &[u8], t: Trailer, table: &mut [u32]) -> Verdict
     requires { ⌜ Laid (now file) t ⌝ }
     requires { ⌜ Shaped (caseOf (now file) t) ⌝ }
-    requires { ⌜ 1024 ≤ length (now table) ⌝ }
+    requires { ⌜ mostNodes ≤ length (now table) ⌝ }
     ensures { λ r. ⌜ r ≡ Verdicts.pathRules (caseOf (now (file .entry)) t) Verdict.Accepted ⌝ }
 {
     let forward = edge_rule(file, t, table, 8);
@@ -57,7 +58,7 @@ pub fn path_rules(file: &[u8], t: Trailer, table: &mut [u32]) -> Verdict
 pub fn count_rules(file: &[u8], t: Trailer, counts: &mut [u32]) -> Verdict
     requires { ⌜ Laid (now file) t ⌝ }
     requires { ⌜ Shaped (caseOf (now file) t) ⌝ }
-    requires { ⌜ 1024 ≤ length (now counts) ⌝ }
+    requires { ⌜ mostNodes ≤ length (now counts) ⌝ }
     ensures { λ r. ⌜ r ≡ Verdicts.countRules (caseOf (now (file .entry)) t) Verdict.Accepted ⌝ }
     ensures { λ r. ⌜ (r ≡ Verdict.Accepted → Counted (now (file .entry)) t (now (counts .exit))) ⌝ }
 {
@@ -70,7 +71,7 @@ pub fn count_rules(file: &[u8], t: Trailer, counts: &mut [u32]) -> Verdict
 
 pub fn graph_rules(file: &[u8], t: Trailer, counts: &mut [u32]) -> Verdict
     requires { ⌜ Laid (now file) t ⌝ }
-    requires { ⌜ 1024 ≤ length (now counts) ⌝ }
+    requires { ⌜ mostNodes ≤ length (now counts) ⌝ }
     ensures { λ r. ⌜ r ≡ Verdicts.graphRules (caseOf (now (file .entry)) t) Verdict.Accepted ⌝ }
     ensures { λ r. ⌜ length (now (counts .exit)) ≡ length (now (counts .entry)) ⌝ }
     ensures { λ r. ⌜ (r ≡ Verdict.Accepted → Counted (now (file .entry)) t (now (counts .exit))) ⌝ }

@@ -2,6 +2,7 @@
 ghost use mathlib.Core.Path.{_≡_};
 ghost use Prim.Native.Nat.{_≤_};
 ghost use lib.ListN.{length};
+ghost use Rattle.paper.specs.Ceilings.{mostNodes};
 ghost use Rattle.paper.specs.Files.{caseOf};
 ghost use Rattle.paper.specs.Known.{Laid, Shaped};
 ghost use Rattle.graph.specs.Filled.{Filled, Holds};
@@ -60,7 +61,7 @@ fn loop_mark(l: Loop, n: u32, rule: u8) -> Mark
 pub fn mark_nodes(file: &[u8], t: Trailer, table: &mut [u32], rule: u8, start: u32)
     requires { ⌜ Laid (now file) t ⌝ }
     requires { ⌜ Shaped (caseOf (now file) t) ⌝ }
-    requires { ⌜ 1024 ≤ length (now table) ⌝ }
+    requires { ⌜ mostNodes ≤ length (now table) ⌝ }
     ensures { λ r. ⌜ Holds (λ v. Marks.markedTo (Marks.marks (caseOf (now (file .entry)) t) rule) start v (t .loops)) (t .nodes) (now (table .exit)) ⌝ }
 {
     fill(table, 0, t.nodes as usize, start);

@@ -1,13 +1,17 @@
 // The listing of a case file: what the program prints, as bytes.
 ghost use Prim.Native.Nat.{_+_, _≤_};
 ghost use lib.ListN.{length};
+ghost use Rattle.paper.specs.Bounds.{listLength};
 ghost use Rattle.paper.specs.Listings.{linesTo, refusalLine, printed, listingOf};
 ghost use Rattle.paper.specs.Verdicts as Verdicts;
 ghost use Rattle.print.specs.Put.{Fits, Put};
 ghost use Rattle.listing.specs.Listed as Listed;
 use layout::Layout;
+use paper::FACTS_FROM;
+use paper::LIST_LENGTH;
 use paper::LONGEST_INPUT;
 use paper::Refusal;
+use paper::SETS_FROM;
 use paper::Verdict;
 
 // The longest listing: 321 lines with bounds of 20 digits.
@@ -31,14 +35,14 @@ fn lines(out: &mut [u8], at: usize, word: &[u8], numbers: &[u64], from: usize, n
 
 // "Every set up to S is listed."
 fn accepted(out: &mut [u8; LONGEST], numbers: &[u64], sets: usize, facts: usize) -> usize
-    requires { ⌜ 321 ≤ length (now numbers) ⌝ }
+    requires { ⌜ listLength ≤ length (now numbers) ⌝ }
     requires { ⌜ sets ≤ 64 ⌝ }
     requires { ⌜ facts ≤ 256 ⌝ }
     ensures { λ r. ⌜ Listed.Printed (Listed.numberLines (now (numbers .entry)) sets facts) (now (out .entry)) r (now (out .exit)) ⌝ }
 {
     let after_total = print::line(out, 0, b"total ", numbers[0]);
-    let after_sets = lines(out, after_total, b"set ", numbers, 1, sets);
-    lines(out, after_sets, b"fact ", numbers, 65, facts)
+    let after_sets = lines(out, after_total, b"set ", numbers, SETS_FROM, sets);
+    lines(out, after_sets, b"fact ", numbers, FACTS_FROM, facts)
 }
 
 // "A refusal prints `refused`, number, place."
@@ -50,9 +54,9 @@ fn refused(out: &mut [u8; LONGEST], why: Refusal) -> usize
 
 // A file that the check accepts has a layout, so the refusal below it is never met.
 fn checked(file: &[u8], out: &mut [u8; LONGEST]) -> usize
-    ensures { λ r. ⌜ Listed.Printed (printed (now (file .entry)) (Verdicts.verdict (now (file .entry)) 321)) (now (out .entry)) r (now (out .exit)) ⌝ }
+    ensures { λ r. ⌜ Listed.Printed (printed (now (file .entry)) (Verdicts.verdict (now (file .entry)) listLength)) (now (out .entry)) r (now (out .exit)) ⌝ }
 {
-    let mut numbers = [0u64; 321];
+    let mut numbers = [0u64; LIST_LENGTH];
     match bolgverk::check(file, &mut numbers) {
         Verdict::Refused(r) => refused(out, r),
         Verdict::Accepted => match layout::layout_of(file) {

@@ -54,11 +54,6 @@ module _ (p : ℕ → Bool) where
       let z : i ≡ n = omega arith in
       rw z (sym (from-none n 0 (λ j q. w .none j (omega arith)) ∙ omega arith))
 
-  pub least-all : (n i : ℕ) → Passed p n i → n ≤ i → n ≡ least p n
-  least-all n i w h =
-      let z : n ≡ i = omega (arith, w .within) in
-      z ∙ least-end n i w h
-
 -- what `some` and `least` say, for those who use a verdict
 abbrev pub None : (ℕ → Bool) → ℕ → Type 0
 None p n = (k : ℕ) → k < n → p k ≡ false
@@ -89,9 +84,6 @@ module _ (p : ℕ → Bool) where
   pub least-is : (n : ℕ) (w : Found p n) → least p n ≡ w .at
   least-is n w =
       sym (least-found p n (w .at) true (record { within = omega (arith, w .below); none = w .none }) (w .below) (sym (w .holds)) refl)
-
-  pub least-le : (n : ℕ) → least p n ≤ n
-  least-le n = ⊎-elim (λ h. omega (arith, least-none n h)) (λ w. omega (arith, least-is n w, w .below)) (look n)
 
   pub least-before : (n i : ℕ) → i < least p n → p i ≡ false
   least-before n i l =

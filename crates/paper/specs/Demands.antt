@@ -11,6 +11,7 @@ use Rattle.paper.specs.Cases.{Fact, Case, inside, size, scopeOf}
 use Rattle.paper.specs.Walks.{Edge, Walk, KeepsLimits}
 use Rattle.paper.specs.Runs.{LegalContent, Fetch, run, misses, ofFact, ofSet}
 use Rattle.paper.specs.Facts.{badHead, unfetched}
+use Rattle.paper.specs.Bounds.{listLength, setsFrom, factsFrom}
 use Rattle.paper.specs.Records.{rowSize}
 use Rattle.paper.specs.Files.{rowAt, readCase}
 use Rattle.paper.specs.declared.Verdict.the-variants.{Accepted}
@@ -22,8 +23,8 @@ use Rattle.paper.specs.OneFact.{fileWith}
 -- and in all never exceed the printed bounds": the numbers are those of the lent list.
 pub record BoundsHold (e : Case) (numbers : List ℕ) (w : List ℕ) (c : Content) : Type 0 where
   pub total : misses (λ a. true) (run e c w) ≤ getD numbers 0 0
-  pub set : (q : ℕ) → q < e .sets → misses (ofSet e q) (run e c w) ≤ getD numbers (1 + q) 0
-  pub fact : (i : ℕ) → i < e .facts → misses (ofFact e (e .fact i)) (run e c w) ≤ getD numbers (65 + i) 0
+  pub set : (q : ℕ) → q < e .sets → misses (ofSet e q) (run e c w) ≤ getD numbers (setsFrom + q) 0
+  pub fact : (i : ℕ) → i < e .facts → misses (ofFact e (e .fact i)) (run e c w) ≤ getD numbers (factsFrom + i) 0
 
 abbrev pub Holds : Case → List ℕ → Type 0
 Holds e numbers = (w : List ℕ) → Walk e w → KeepsLimits e w → (c : Content) → LegalContent e c → BoundsHold e numbers w c
@@ -102,5 +103,5 @@ EvidenceExact f =
     → badHead (readCase f) t ≡ false
     → unfetched (readCase f) t ≡ false
     → (room : ℕ)
-    → 321 ≤ room
+    → listLength ≤ room
     → AcceptedEvidence f t room ↔ FewGathered (readCase f) t

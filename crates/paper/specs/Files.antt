@@ -56,37 +56,37 @@ badLetters f = some (badLetter f) (length letters) || not (eqb (u8At f (endAt f 
 
 -- 3: "policy, ways or sets out of range"
 unfoldable pub badCache : Trailer → Bool
-badCache t = not (inRange (t .policy) (t .ways) (t .sets))
+badCache trailer = not (inRange (trailer .policy) (trailer .ways) (trailer .sets))
 
 -- 4: "Nodes 1 to 1,024, edges 0 to 4,096, loops 0 to 64, facts 0 to 256"
 unfoldable pub badNumbers : Trailer → Bool
-badNumbers t = ltb (t .nodes) 1 || (ltb mostNodes (t .nodes) || (ltb mostEdges (t .edges) || (ltb mostLoops (t .loops) || ltb mostFacts (t .facts))))
+badNumbers trailer = ltb (trailer .nodes) 1 || (ltb mostNodes (trailer .nodes) || (ltb mostEdges (trailer .edges) || (ltb mostLoops (trailer .loops) || ltb mostFacts (trailer .facts))))
 
 -- "Sections in order, without gaps, from offset 0: nodes …; edges …; loops …; facts": where each begins, and where one of its records stands
 abbrev pub nodePlace : ℕ → ℕ
 nodePlace v = Records.nodeSize * v
 
 abbrev pub edgesAt : Trailer → ℕ
-edgesAt t = nodePlace (t .nodes)
+edgesAt trailer = nodePlace (trailer .nodes)
 
 abbrev pub edgePlace : Trailer → ℕ → ℕ
-edgePlace t i = edgesAt t + Records.edgeSize * i
+edgePlace trailer i = edgesAt trailer + Records.edgeSize * i
 
 abbrev pub loopsAt : Trailer → ℕ
-loopsAt t = edgePlace t (t .edges)
+loopsAt trailer = edgePlace trailer (trailer .edges)
 
 abbrev pub loopPlace : Trailer → ℕ → ℕ
-loopPlace t j = loopsAt t + Records.loopSize * j
+loopPlace trailer j = loopsAt trailer + Records.loopSize * j
 
 abbrev pub factsAt : Trailer → ℕ
-factsAt t = loopPlace t (t .loops)
+factsAt trailer = loopPlace trailer (trailer .loops)
 
 -- 5: "an offset wrong, or the facts would start past the trailer"
 unfoldable pub badOffsets : List ℕ → Trailer → Bool
-badOffsets f t =
+badOffsets f trailer =
     not (eqb (u32At f (endAt f)) 0)
-    || (not (eqb (u32At f (endAt f + Records.edgesOffset)) (edgesAt t))
-    || (not (eqb (u32At f (endAt f + Records.loopsOffset)) (loopsAt t)) || (not (eqb (u32At f (endAt f + Records.factsOffset)) (factsAt t)) || ltb (endAt f) (factsAt t))))
+    || (not (eqb (u32At f (endAt f + Records.edgesOffset)) (edgesAt trailer))
+    || (not (eqb (u32At f (endAt f + Records.loopsOffset)) (loopsAt trailer)) || (not (eqb (u32At f (endAt f + Records.factsOffset)) (factsAt trailer)) || ltb (endAt f) (factsAt trailer))))
 
 -- "the number and seven slots": slot k of the row that stands at p
 abbrev pub slotPlace : ℕ → ℕ → ℕ
@@ -115,41 +115,41 @@ factAt f p =
 unfoldable pub nodeAt : List ℕ → ℕ → ℕ
 nodeAt f v = u16At f (nodePlace v)
 
-module _ (f : List ℕ) (t : Trailer) where
+module _ (f : List ℕ) (trailer : Trailer) where
   unfoldable pub fromAt : ℕ → ℕ
-  fromAt i = u16At f (edgePlace t i)
+  fromAt i = u16At f (edgePlace trailer i)
 
   unfoldable pub toAt : ℕ → ℕ
-  toAt i = u16At f (edgePlace t i + Records.toField)
+  toAt i = u16At f (edgePlace trailer i + Records.toField)
 
   unfoldable pub loopAt : ℕ → Loop
   loopAt j =
       record {
-        first = u16At f (loopPlace t j);
-        last = u16At f (loopPlace t j + Records.lastField);
-        bound = u32At f (loopPlace t j + Records.boundField);
+        first = u16At f (loopPlace trailer j);
+        last = u16At f (loopPlace trailer j + Records.lastField);
+        bound = u32At f (loopPlace trailer j + Records.boundField);
       }
 
   -- where the fact that stands at p ends
   unfoldable pub factEnd : ℕ → ℕ
-  factEnd p = rowPlace p (size (rangeOf (t .nodes) loopAt (factAt f p .scope)))
+  factEnd p = rowPlace p (size (rangeOf (trailer .nodes) loopAt (factAt f p .scope)))
 
   -- where fact i stands
   unfoldable pub factPlace : ℕ → ℕ
-  factPlace zero = factsAt t
+  factPlace zero = factsAt trailer
   factPlace (suc i) = factEnd (factPlace i)
 
   -- the case that the file holds, by its trailer
   unfoldable pub caseOf : Case
   caseOf =
       record {
-        policy = t .policy;
-        ways = t .ways;
-        sets = t .sets;
-        nodes = t .nodes;
-        edges = t .edges;
-        loops = t .loops;
-        facts = t .facts;
+        policy = trailer .policy;
+        ways = trailer .ways;
+        sets = trailer .sets;
+        nodes = trailer .nodes;
+        edges = trailer .edges;
+        loops = trailer .loops;
+        facts = trailer .facts;
         block = nodeAt f;
         from = fromAt;
         to = toAt;

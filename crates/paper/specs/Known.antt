@@ -12,18 +12,18 @@ use Rattle.paper.specs.Records.{trailerSize}
 use Rattle.paper.specs.Files.{endAt, factsAt}
 
 -- The file is laid out as its trailer says: every section is there, and the numbers are small.
-pub record Laid (f : List ℕ) (t : Trailer) : Type 0 where
+pub record Laid (f : List ℕ) (trailer : Trailer) : Type 0 where
   pub long : trailerSize ≤ length f
-  pub room : factsAt t ≤ endAt f
-  pub nodes-low : 1 ≤ t .nodes
-  pub nodes-high : t .nodes ≤ mostNodes
-  pub edges-high : t .edges ≤ mostEdges
-  pub loops-high : t .loops ≤ mostLoops
-  pub facts-high : t .facts ≤ mostFacts
-  pub ways-high : t .ways ≤ 8
-  pub sets-low : 1 ≤ t .sets
-  pub sets-high : t .sets ≤ 64
-  pub cache : inRange (t .policy) (t .ways) (t .sets) ≡ true
+  pub room : factsAt trailer ≤ endAt f
+  pub nodes-low : 1 ≤ trailer .nodes
+  pub nodes-high : trailer .nodes ≤ mostNodes
+  pub edges-high : trailer .edges ≤ mostEdges
+  pub loops-high : trailer .loops ≤ mostLoops
+  pub facts-high : trailer .facts ≤ mostFacts
+  pub ways-high : trailer .ways ≤ 8
+  pub sets-low : 1 ≤ trailer .sets
+  pub sets-high : trailer .sets ≤ 64
+  pub cache : inRange (trailer .policy) (trailer .ways) (trailer .sets) ≡ true
 
 -- Edges end at nodes and come by rising sources; loops are ranges of nodes, come by rising headers, and are nested or apart.
 pub record Shaped (e : Case) : Type 0 where

@@ -12,7 +12,7 @@ use Rattle.paper.specs.declared.Verdict.{Verdict}
 use Rattle.paper.specs.declared.Verdict.the-variants.{Accepted, Refused}
 use Rattle.paper.specs.Answers.{refuse}
 use Rattle.paper.specs.Cases.{Case}
-use Rattle.paper.specs.Bounds.{factBound, setBound, totalBound}
+use Rattle.paper.specs.Bounds.{listLength, factBound, setBound, totalBound}
 use Rattle.paper.specs.Ceilings.{longestInput}
 use Rattle.paper.specs.Files.{readCase}
 use Rattle.paper.specs.Verdicts.{verdict}
@@ -66,4 +66,4 @@ printed file (Refused r) = refusalLine r
 
 -- "the program reads at most 65,536 bytes and prints `refused 28 0` for longer input"
 unfoldable pub listingOf : List ℕ → List ℕ
-listingOf input = cond (ltb longestInput (length input)) (refusalLine (refuse 28 0)) (printed input (verdict input 321))
+listingOf input = cond (ltb longestInput (length input)) (refusalLine (refuse 28 0)) (printed input (verdict input listLength))

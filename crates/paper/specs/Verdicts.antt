@@ -12,7 +12,7 @@ use Rattle.paper.specs.Rules.{rule, ruleAt}
 use Rattle.paper.specs.Cases.{Fact, Case, size, scopeOf}
 use Rattle.paper.specs.Graphs.{badEdge, badLoop, badEntry, badReturn, badCount}
 use Rattle.paper.specs.Facts.{nonePrevious, previousOf, badHead, badOrder, unfetched, badRowAt, badStepAt, badManyAt}
-use Rattle.paper.specs.Bounds.{numbers}
+use Rattle.paper.specs.Bounds.{listLength, numbers}
 use Rattle.paper.specs.Records.{trailerSize}
 use Rattle.paper.specs.Files.{endAt, trailerOf, badLetters, badCache, badNumbers, badOffsets, factsAt, headEnd, factAt, factEnd, factPlace, caseOf, readCase}
 
@@ -65,28 +65,28 @@ module _ (e : Case) where
     abbrev pub evidenceRules : Fact → Verdict → Verdict
     evidenceRules t rest = rowRules t (stepRules t (manyRules t rest))
 
-module _ (f : List ℕ) (t : Trailer) where
+module _ (f : List ℕ) (trailer : Trailer) where
   -- what comes after the head of the fact that stands at p; 15: "rows cut short"
   unfoldable pub bodyRules : ℕ → ℕ → Verdict → Verdict
   bodyRules i p rest =
-      fetchRule (caseOf f t) i (factAt f p) (rule 15 i (ltb (endAt f) (factEnd f t p)) (evidenceRules (caseOf f t) i (factAt f p) rest))
+      fetchRule (caseOf f trailer) i (factAt f p) (rule 15 i (ltb (endAt f) (factEnd f trailer p)) (evidenceRules (caseOf f trailer) i (factAt f p) rest))
 
   -- The turn of fact i, which stands at p, after the previous one; 11: "fewer than 6 bytes left for a fact"
   unfoldable pub turnRules : ℕ → Previous → ℕ → Verdict → Verdict
   turnRules i previous p rest =
       rule 11 i (ltb (endAt f) (headEnd p))
-      (headRule (caseOf f t) i (factAt f p) (orderRule (caseOf f t) i previous (factAt f p) (bodyRules i p rest)))
+      (headRule (caseOf f trailer) i (factAt f p) (orderRule (caseOf f trailer) i previous (factAt f p) (bodyRules i p rest)))
 
   -- "for each fact in turn": n facts, from fact i on, which stands at p
   unfoldable pub turnsFrom : ℕ → ℕ → Previous → ℕ → Verdict → Verdict
   turnsFrom zero i previous p rest = rest
   turnsFrom (suc n) i previous p rest =
-      let after = turnsFrom n (suc i) (previousOf (caseOf f t) (factAt f p)) (factEnd f t p) rest in
+      let after = turnsFrom n (suc i) (previousOf (caseOf f trailer) (factAt f p)) (factEnd f trailer p) rest in
       turnRules i previous p after
 
   -- 11 to 18 for each fact; "then 19": "bytes left between last fact and trailer"
   unfoldable pub factRules : Verdict → Verdict
-  factRules rest = turnsFrom (t .facts) 0 nonePrevious (factsAt t) (rule 19 0 (ltb (factPlace f t (t .facts)) (endAt f)) rest)
+  factRules rest = turnsFrom (trailer .facts) 0 nonePrevious (factsAt trailer) (rule 19 0 (ltb (factPlace f trailer (trailer .facts)) (endAt f)) rest)
 
 -- "1 to 10 in order, each over the whole file"
 abbrev pub wholeFileRules : List ℕ → Verdict → Verdict
@@ -98,9 +98,9 @@ fileVerdict f = wholeFileRules f (factRules f (trailerOf f) Accepted)
 
 -- 20: "lent list too short (321)"
 unfoldable pub verdict : List ℕ → ℕ → Verdict
-verdict f room = rule 20 0 (ltb room 321) (fileVerdict f)
+verdict f room = rule 20 0 (ltb room listLength) (fileVerdict f)
 
 -- "The check writes 321 64-bit numbers to a lent list: …, later ones untouched"; a refusal "changes no lent memory"
 abbrev pub lentAfter : List ℕ → List ℕ → Verdict → List ℕ
-lentAfter f lent Accepted = numbers (readCase f) ++ drop 321 lent
+lentAfter f lent Accepted = numbers (readCase f) ++ drop listLength lent
 lentAfter f lent (Refused r) = lent

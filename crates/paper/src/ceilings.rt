@@ -11,3 +11,10 @@ pub const MOST_BOUND: u32 = 1000000;
 
 // "the program reads at most 65,536 bytes"
 pub const LONGEST_INPUT: usize = 65536;
+
+// "321 64-bit numbers": "the total, 64 set bounds, 256 fact bounds". `Bounds` of specs/ has the same names.
+pub const LIST_LENGTH: usize = 321;
+
+pub const SETS_FROM: usize = 1;
+
+pub const FACTS_FROM: usize = 65;

@@ -13,12 +13,15 @@ pub use cache::is_in_range;
 pub use cache::is_offered;
 pub use cache::is_set_count;
 pub use cache::sets_of;
+pub use ceilings::FACTS_FROM;
+pub use ceilings::LIST_LENGTH;
 pub use ceilings::LONGEST_INPUT;
 pub use ceilings::MOST_BOUND;
 pub use ceilings::MOST_EDGES;
 pub use ceilings::MOST_FACTS;
 pub use ceilings::MOST_LOOPS;
 pub use ceilings::MOST_NODES;
+pub use ceilings::SETS_FROM;
 pub use eight::kept_from;
 pub use methods::shift_of;
 

@@ -6,13 +6,13 @@ use lib.ListN.{drop}
 use Rattle.paper.specs.declared.Trailer.{Trailer}
 use Rattle.paper.specs.declared.Verdict.{Verdict}
 use Rattle.paper.specs.declared.Verdict.the-variants.{Accepted, Refused}
-use Rattle.paper.specs.Bounds.{numbers}
+use Rattle.paper.specs.Bounds.{listLength, numbers}
 use Rattle.paper.specs.Files.{caseOf}
 use Rattle.paper.specs.Verdicts.{graphRules, factRules}
 
 -- the lent list afterwards
 abbrev pub written : List ℕ → Trailer → List ℕ → Verdict → List ℕ
-written f t lent Accepted = numbers (caseOf f t) ++ drop 321 lent
+written f t lent Accepted = numbers (caseOf f t) ++ drop listLength lent
 written f t lent (Refused r) = lent
 
 pub record Ruled (f : List ℕ) (t : Trailer) (lent : List ℕ) (r : Verdict) (after : List ℕ) : Type 0 where

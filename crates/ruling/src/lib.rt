@@ -1,18 +1,20 @@
 // The rules of a file that is laid out, put together: the graph's, then the facts', then the bounds.
 ghost use Prim.Native.Nat.{_≤_};
 ghost use lib.ListN.{length};
+ghost use Rattle.paper.specs.Bounds.{listLength};
 ghost use Rattle.paper.specs.Known.{Laid};
 ghost use Rattle.ruling.specs.Ruled.{Ruled};
+use paper::MOST_NODES;
 use paper::Trailer;
 use paper::Verdict;
 
 // Rules 6 to 19 and the 321 numbers, for a file that passes rules 1 to 5.
-pub fn rule_on(file: &[u8], t: Trailer, bounds: &mut [u64]) -> Verdict
+pub fn rule_on(file: &[u8], t: Trailer, numbers: &mut [u64]) -> Verdict
     requires { ⌜ Laid (now file) t ⌝ }
-    requires { ⌜ 321 ≤ length (now bounds) ⌝ }
-    ensures { λ r. ⌜ Ruled (now (file .entry)) t (now (bounds .entry)) r (now (bounds .exit)) ⌝ }
+    requires { ⌜ listLength ≤ length (now numbers) ⌝ }
+    ensures { λ r. ⌜ Ruled (now (file .entry)) t (now (numbers .entry)) r (now (numbers .exit)) ⌝ }
 {
-    let mut counts: [u32; 1024] = [0; 1024];
+    let mut counts: [u32; MOST_NODES] = [0; MOST_NODES];
     let graph = graph::graph_rules(file, t, &mut counts);
     if let Verdict::Refused(r) = graph {
         return Verdict::Refused(r);
@@ -21,6 +23,6 @@ pub fn rule_on(file: &[u8], t: Trailer, bounds: &mut [u64]) -> Verdict
     if let Verdict::Refused(r) = facts {
         return Verdict::Refused(r);
     }
-    charge::charge(file, t, &counts, bounds);
+    charge::charge(file, t, &counts, numbers);
     Verdict::Accepted
 }

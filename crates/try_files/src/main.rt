@@ -1,6 +1,7 @@
 // The paper's checked number 8, as far as it speaks of files: each case is built, checked, and its verdict printed.
 mod small;
 
+use paper::LIST_LENGTH;
 use paper::Verdict;
 ghost use Prim.Native.Nat.{_+_, _≤_};
 ghost use lib.ListN.{length};
@@ -18,9 +19,9 @@ fn verdict(out: &mut [u8], at: usize, v: Verdict) -> usize
 fn checked(out: &mut [u8], words: &[u8], file: &[u8])
     requires { ⌜ length (now words) + 50 ≤ length (now out) ⌝ }
 {
-    let mut bounds = [0u64; 321];
+    let mut numbers = [0u64; LIST_LENGTH];
     let after_words = print::word(out, 0, words);
-    let end = verdict(out, after_words, bolgverk::check(file, &mut bounds));
+    let end = verdict(out, after_words, bolgverk::check(file, &mut numbers));
     print::send(out, end);
 }
 

@@ -19,7 +19,7 @@ start c = c .before .before .before .before .before
 
 cleared : (c : tie.After-clear) →
     let a = start c .args in
-    Part (caseOf (a .file .now) (a .t)) 0 0 0 (a .bounds .now) (c .clear .last .0)
+    Part (caseOf (a .file .now) (a .t)) 0 0 0 (a .numbers .now) (c .clear .last .0)
 cleared c = part-start _ _ _ (start c .pre .1 .1 .1 .1) (c .clear .ensures)
 
 -- where the facts' tables are lent, and where the facts are charged
@@ -66,7 +66,7 @@ returns c =
     let s = c .before .before in
     let f = charged s in
     let k = before-facts (f .before) in
-    part-end _ (start k .args .bounds .now) _ _ (f .charge-facts .ensures .1 .1 .later ∙ cleared k .later) (s .charge-sets .ensures)
+    part-end _ (start k .args .numbers .now) _ _ (f .charge-facts .ensures .1 .1 .later ∙ cleared k .later) (s .charge-sets .ensures)
 
 pub charge-spec : {M : Type 1} → statement M
 charge-spec =

@@ -8,10 +8,10 @@ use Rattle.charge.proofs.clear.Statement.{statement}
 use Rattle.charge.proofs.clear.Tie as tie
 
 abbrev Inv-loop : tie.InvT-loop
-Inv-loop bounds₀ i₀ bounds i = Written (λ j. 0) listLength bounds₀ i bounds
+Inv-loop numbers₀ i₀ numbers i = Written (λ j. 0) listLength numbers₀ i numbers
 
 abbrev μ-loop : tie.MeasureT-loop
-μ-loop bounds₀ i₀ bounds i = listLength - i
+μ-loop numbers₀ i₀ numbers i = listLength - i
 
 pub clear-spec : {M : Type 1} → statement M
 clear-spec =

@@ -14,11 +14,11 @@ use Rattle.charge.proofs.sets.charge_sets.Statement.{statement}
 use Rattle.charge.proofs.sets.charge_sets.Tie as tie
 
 abbrev Inv-loop : tie.InvT-loop
-Inv-loop file t charged entered fetched spent bounds₀ n total₀ q₀ bounds total q =
-    Part (caseOf file t) 0 q (t .facts) bounds₀ bounds × Added (setBound (caseOf file t)) largestA (t .sets) total q
+Inv-loop file t charged entered fetched spent numbers₀ n total₀ q₀ numbers total q =
+    Part (caseOf file t) 0 q (t .facts) numbers₀ numbers × Added (setBound (caseOf file t)) largestA (t .sets) total q
 
 abbrev μ-loop : tie.MeasureT-loop
-μ-loop file t charged entered fetched spent bounds₀ n total₀ q₀ bounds total q = n - q
+μ-loop file t charged entered fetched spent numbers₀ n total₀ q₀ numbers total q = n - q
 
 -- where a turn begins
 abbrev start : tie.In-loop Inv-loop μ-loop → tie.Start Inv-loop μ-loop
