@@ -3,13 +3,13 @@ use Prim.Native.Nat.{ℕ, suc, _+_, _-_, _*_, _≤_, _<_, min}
 use native.Mathlib.Omega.{arith}
 use native.Mathlib.Numerals.{add-one}
 use mathlib.Core.Path.{_≡_, refl, _∙_, ap}
-use mathlib.Core.Logic.{_≢_}
+use mathlib.Core.Bool.{true, false}
 use mathlib.Core.List.{List}
-use borrow.Author.Tests.{eq-eqb, ne-eqb}
 use lib.ListN.{getD}
 use Rattle.paper.specs.declared.Trailer.{Trailer}
 use Rattle.paper.specs.Lists.{lowestTo}
 use Rattle.paper.specs.Cases.{Case}
+use Rattle.paper.specs.Policies.{partsOf}
 use Rattle.paper.specs.Bounds.{floorOf, A, M, floorAt, setBound}
 use Rattle.paper.specs.Files.{caseOf}
 use Rattle.paper.proofs.Sums.{Lowest, lowest-start, lowest-more}
@@ -39,15 +39,15 @@ module _ (f : List ℕ) (t : Trailer) (charged entered fetched spent : List ℕ)
         spent-small f t (s .laid) (s .sound) fetched spent (s .nodes) (placeOf q Sizes.noLimit) (omega arith),
       )
 
-  pub fifo-set :
-      (r : ℕ) → t .policy ≡ 1 → r ≡ lowestTo (floorAt (caseOf f t) q) (getD charged q 0 + getD spent (placeOf q Sizes.noLimit) 0) (t .ways)
+  pub floor-set :
+      (r : ℕ) → partsOf (t .policy) .floors ≡ true → r ≡ lowestTo (floorAt (caseOf f t) q) (getD charged q 0 + getD spent (placeOf q Sizes.noLimit) 0) (t .ways)
       → r ≡ setBound (caseOf f t) q
   unfolding caseOf setBound
-  fifo-set r h e = rw (eq-eqb (t .policy) 1 h) (e ∙ ap (λ x. lowestTo (floorAt (caseOf f t) q) x (t .ways)) sum-A)
+  floor-set r h e = rw h (e ∙ ap (λ x. lowestTo (floorAt (caseOf f t) q) x (t .ways)) sum-A)
 
-  pub other-set : t .policy ≢ 1 → getD charged q 0 + getD spent (placeOf q Sizes.noLimit) 0 ≡ setBound (caseOf f t) q
+  pub other-set : partsOf (t .policy) .floors ≡ false → getD charged q 0 + getD spent (placeOf q Sizes.noLimit) 0 ≡ setBound (caseOf f t) q
   unfolding caseOf setBound
-  other-set h = rw (ne-eqb (t .policy) 1 h) sum-A
+  other-set h = rw h sum-A
 
   pub flooring-start : (a : ℕ) → Flooring (caseOf f t) q a (getD fetched q 0) a 0
   unfolding caseOf

@@ -12,6 +12,7 @@ use Rattle.paper.specs.Graphs.{count}
 use Rattle.paper.specs.Bounds.{g, boundOf, covers, counts, entered, factBound}
 use Rattle.paper.specs.Files.{nodeAt, caseOf}
 use Rattle.paper.proofs.Meaning.{SoundHead, Sound}
+use Rattle.paper.proofs.PolicyLaws.{each}
 use Rattle.paper.specs.Known.{Laid}
 use Rattle.paper.specs.Ceilings.{mostCount}
 use Rattle.formulas.specs.Largest.{largestVisits, largestBound, largestEntered, largestCharged}
@@ -25,8 +26,7 @@ bound-low : (p k l E N a : ℕ) → E + N ≤ a → boundOf p k l E N ≤ a
 unfolding boundOf
 bound-low p k l E N a h =
     let z : E ≤ a = omega arith in
-    cond-low (eqb p 0) z
-    (cond-low (eqb p 1) (cond-low (ltb l 2) z (omega (arith, div-le-self (N - E) (g k l)))) (cond-low (ltb l 2) z (omega arith)))
+    each (λ P. P .bound k l E N ≤ a) z (cond-low (ltb l 2) z (omega (arith, div-le-self (N - E) (g k l)))) (cond-low (ltb l 2) z (omega arith)) p
 
 module _ (f : List ℕ) (t : Trailer) (laid : Laid f t) (sound : Sound (caseOf f t)) where
   -- "block b lives in set b mod S"

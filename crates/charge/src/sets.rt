@@ -61,7 +61,7 @@ fn set_bound(
     ensures { λ r. ⌜ r ≤ Largest.largestA ⌝ }
 {
     let a = charged[q] + spent[LIMITS * q + NO_LIMIT as usize];
-    if t.policy == 1 {
+    if paper::has_floors(t.policy) {
         return least_floor(file, t, charged, entered, fetched, spent, q, a);
     }
     a

@@ -64,10 +64,10 @@ pub fn bound_of(policy: u8, k: u64, l: u64, e: u64, n: u64) -> u64
     requires { ⌜ n ≤ Largest.largestVisits ⌝ }
     ensures { λ r. ⌜ r ≡ Bounds.boundOf policy k l e n ⌝ }
 {
-    if policy == 0 {
+    if policy == paper::LRU {
         return e;
     }
-    if policy == 1 {
+    if policy == paper::FIFO {
         return fifo_bound(k, l, e, n);
     }
     nmru_bound(k, l, e, n)

@@ -54,11 +54,7 @@ fn has_legal_bits(policy: u8, k: usize, bits: u8) -> bool
     requires { ⌜ k ≤ 8 ⌝ }
     ensures { λ r. ⌜ r ≡ Machines.legalBits policy k bits ⌝ }
 {
-    if policy == 2 {
-        let full: u16 = 255 >> (8 - k);
-        return (bits as u16) < full;
-    }
-    bits == 0
+    (bits as u16) < paper::bits_below(policy, k)
 }
 
 pub fn is_legal(policy: u8, k: usize, state: SetState) -> bool

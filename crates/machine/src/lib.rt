@@ -27,11 +27,11 @@ fn take_step(policy: u8, k: usize, state: SetState, block: Block) -> Stepped
     requires { ⌜ block .0 ≢ Machines.none ⌝ }
     ensures { λ r. ⌜ r ≡ Machines.step policy k state (block .0) ⌝ }
 {
-    if policy == 0 {
+    if policy == paper::LRU {
         let shift = state.shift(k, block, paper::shift_of(k));
         return state.lru(k, block, shift);
     }
-    if policy == 1 {
+    if policy == paper::FIFO {
         return state.fifo(k, block, paper::kept_from(k));
     }
     let next = next_bits();

@@ -4,6 +4,7 @@ pub mod Sums
 pub mod TableLaws
 pub mod Bits
 pub mod States
+pub mod PolicyLaws
 pub mod Meaning
 pub mod RuleLaws
 pub mod Before

@@ -29,7 +29,7 @@ module _ (p k : ℕ) (s : SetState) (l : legal p k s ≡ true) where
       record { low = o .least; high = o .most; beyond = both (empty (drop k (s .lines))) _ (d .1) .0; apart = d .0 }
 
   pub nmru-bits : p ≡ 2 → s .bits + 1 < 2 ^ k
-  nmru-bits e = omega (arith, legal-few p k (s .bits) e (says-true (says-legal p k s) l .bits))
+  nmru-bits e = omega (arith, legal-few p k (s .bits) (omega arith) (says-true (says-legal p k s) l .bits))
 
 -- the lines from k on are empty, so a block that stands in a line stands in one of the k
 among : (k : ℕ) (l : List ℕ) (b : ℕ) → Ready k l → b ≢ none → lineOf l b < length l → lineOf l b < k

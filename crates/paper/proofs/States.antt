@@ -2,17 +2,19 @@
 use Prim.Native.Nat.{ℕ, zero, suc, _+_, _-_, _^_, _<_, _≤_}
 use mathlib.Core.Path.{_≡_, refl, sym, _∙_}
 use mathlib.Core.Logic.{_≢_}
-use mathlib.Core.Bool.{Bool, true, false, cond}
+use mathlib.Core.Bool.{Bool, true, false, cond, _&&_}
 use mathlib.Core.List.{List, [], _∷_}
 use native.Mathlib.Decide.{ℕ-discrete}
 use native.Mathlib.Omega.{arith}
 use borrow.Author.Tests.{eq-eqb, ne-eqb}
+use lib.Dec.{leb, ltb}
 use lib.ListN.{length, getD, take, drop}
 use lib.Pow.{pow-pos}
 use lib.Seq.{getD-take, getD-drop, length-take-le}
 use Rattle.paper.specs.declared.SetState.{SetState}
+use Rattle.paper.specs.Policies.{waysFrom}
 use Rattle.paper.specs.Machines.{none, emptySet, lineOf, hits, offered, setCount, inRange, stands, distinct, empty, legalBits, legal, bitAt, victim}
-use Rattle.paper.proofs.Says.{Says, holds, fails, says-lt, says-le, says-eq, says-and, says-as, says-is, says-true}
+use Rattle.paper.proofs.Says.{Says, holds, fails, says-lt, says-le, says-and, says-as, says-is, says-true}
 use Rattle.paper.proofs.Bits.{victim-ones, victim-low, victim-zero, few-bits}
 
 -- "A set has k ways (LRU, FIFO 1 to 8; NMRU 2 to 8)"
@@ -25,20 +27,27 @@ pub record Offered (policy k : ℕ) : Type 0 where
 pub says-offered : (policy k : ℕ) → Says (Offered policy k) (offered policy k)
 unfolding offered
 says-offered policy k =
-    elim (ℕ-discrete policy 2) [
-      | yes e ↦
-          rw (eq-eqb policy 2)
-          (says-as
-          (λ h. record { known = h .0; most = h .1 .0; least = omega (arith, h .1 .1); two = λ p. h .1 .1 })
-          (λ o. (o .known, (o .most, o .two e)))
-          (says-and (says-le policy 2) (says-and (says-le k 8) (says-lt 1 k))))
+    elim (ℕ-discrete policy 0) [
+      | yes z ↦ rw (eq-eqb policy 0) (from-one (omega arith))
       | no n ↦
-          rw (ne-eqb policy 2)
-          (says-as
-          (λ h. record { known = h .0; most = h .1 .0; least = h .1 .1; two = λ p. absurd (n p) })
-          (λ o. (o .known, (o .most, o .least)))
-          (says-and (says-le policy 2) (says-and (says-le k 8) (says-lt 0 k))))
+          rw (ne-eqb policy 0)
+          (elim (ℕ-discrete policy 1) [
+            | yes z ↦ rw (eq-eqb policy 1) (from-one (omega arith))
+            | no m ↦
+                rw (ne-eqb policy 1)
+                (says-as
+                (λ h. record { known = h .0; most = h .1 .0; least = omega (arith, h .1 .1); two = λ p. h .1 .1 })
+                (λ o. (o .known, (o .most, o .two (omega (arith, o .known)))))
+                (says-and (says-le policy 2) (says-and (says-le k 8) (says-le 2 k))))
+          ])
     ]
+  where
+    from-one : policy ≢ 2 → Says (Offered policy k) (leb policy 2 && waysFrom 1 k)
+    from-one n =
+        says-as
+        (λ h. record { known = h .0; most = h .1 .0; least = h .1 .1; two = λ p. absurd (n p) })
+        (λ o. (o .known, (o .most, o .least)))
+        (says-and (says-le policy 2) (says-and (says-le k 8) (says-le 1 k)))
 
 -- "With S sets (1 to 64)"
 pub says-sets : (sets : ℕ) → Says ((0 < sets) × (sets ≤ 64)) (setCount sets)
@@ -119,32 +128,45 @@ says-empty (x ∷ l) =
     more e h zero = e
     more e h (suc i) = h i
 
--- "the bits are 0 for LRU and FIFO; for NMRU the bits from k on are 0 and at least one of the low k is 0"
+-- "the bits are 0 for LRU and FIFO; for NMRU the bits from k on are 0 and at least one of the low k is 0". A policy above NMRU's 2 does not occur.
 pub record LegalBits (policy k bits : ℕ) : Type 0 where
-  pub zeros : policy ≢ 2 → bits ≡ 0
-  pub few : policy ≡ 2 → bits < 2 ^ k
-  pub free : policy ≡ 2 → (i : ℕ) × (i < k) × (bitAt bits i ≡ 0)
+  pub zeros : policy < 2 → bits ≡ 0
+  pub few : 2 ≤ policy → bits < 2 ^ k
+  pub free : 2 ≤ policy → (i : ℕ) × (i < k) × (bitAt bits i ≡ 0)
 
 -- for NMRU that is one test, as the definition has it
-pub few-legal : (policy k bits : ℕ) → policy ≡ 2 → bits < 2 ^ k - 1 → LegalBits policy k bits
+pub few-legal : (policy k bits : ℕ) → 2 ≤ policy → bits < 2 ^ k - 1 → LegalBits policy k bits
 few-legal policy k bits e h =
     record {
-      zeros = λ n. absurd (n e);
+      zeros = λ n. absurd (omega arith);
       few = λ p. omega arith;
       free = λ p. (victim k bits, victim-low k bits h, victim-zero k bits h);
     }
 
-pub legal-few : (policy k bits : ℕ) → policy ≡ 2 → LegalBits policy k bits → bits < 2 ^ k - 1
+pub legal-few : (policy k bits : ℕ) → 2 ≤ policy → LegalBits policy k bits → bits < 2 ^ k - 1
 legal-few policy k bits e b = few-bits k bits (b .free e .0) (b .few e) (b .free e .1) (b .free e .2)
+
+-- and for LRU and FIFO
+says-zero : (policy k bits : ℕ) → policy < 2 → Says (LegalBits policy k bits) (ltb bits 1)
+says-zero policy k bits n =
+    says-as
+    (λ h. record { zeros = λ p. omega arith; few = λ e. absurd (omega arith); free = λ e. absurd (omega arith) })
+    (λ b. omega (arith, b .zeros n))
+    (says-lt bits 1)
 
 says-bits : (policy k bits : ℕ) → Says (LegalBits policy k bits) (legalBits policy k bits)
 unfolding legalBits
 says-bits policy k bits =
-    elim (ℕ-discrete policy 2) [
-      | yes e ↦ rw (eq-eqb policy 2) (says-as (few-legal policy k bits e) (legal-few policy k bits e) (says-lt bits (2 ^ k - 1)))
+    elim (ℕ-discrete policy 0) [
+      | yes z ↦ rw (eq-eqb policy 0) (says-zero policy k bits (omega arith))
       | no n ↦
-          rw (ne-eqb policy 2)
-          (says-as (λ h. record { zeros = λ p. h; few = λ e. absurd (n e); free = λ e. absurd (n e) }) (λ b. b .zeros n) (says-eq bits 0))
+          rw (ne-eqb policy 0)
+          (elim (ℕ-discrete policy 1) [
+            | yes z ↦ rw (eq-eqb policy 1) (says-zero policy k bits (omega arith))
+            | no m ↦
+                let h : 2 ≤ policy = omega arith in
+                rw (ne-eqb policy 1) (says-as (few-legal policy k bits h) (legal-few policy k bits h) (says-lt bits (2 ^ k - 1)))
+          ])
     ]
 
 pub record Legal (policy k : ℕ) (s : SetState) : Type 0 where
@@ -186,5 +208,5 @@ pub victim-lowest :
     → legal 2 k s ≡ true
     → (victim k (s .bits) < k) × (bitAt (s .bits) (victim k (s .bits)) ≡ 0) × ((i : ℕ) → i < victim k (s .bits) → bitAt (s .bits) i ≡ 1)
 victim-lowest k s h =
-    let few = legal-few 2 k (s .bits) refl (says-true (says-legal 2 k s) h .bits) in
+    let few = legal-few 2 k (s .bits) (omega arith) (says-true (says-legal 2 k s) h .bits) in
     (victim-low k (s .bits) few, victim-zero k (s .bits) few, victim-ones k (s .bits))

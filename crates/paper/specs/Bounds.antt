@@ -1,38 +1,20 @@
--- "The bounds": the paper's table line by line, the sums A and M(l), and the list of numbers.
-use Prim.Native.Nat.{ℕ, suc, _+_, _-_, _*_, _/_, _%_, min}
-use mathlib.Core.Bool.{Bool, true, cond, not, _&&_, _||_}
+-- "The bounds": of a fact by its policy's lines of the table, the sums A and M(l), and the list of numbers.
+use Prim.Native.Nat.{ℕ, suc, _+_, _-_, _*_, _/_, _%_}
+use mathlib.Core.Bool.{Bool, true, cond, not, _&&_}
 use mathlib.Core.List.{List}
 use lib.Dec.{eqb, ltb, leb}
 use Rattle.paper.specs.declared.Loop.{Loop}
 use Rattle.paper.specs.Lists.{some, sumTo, lowestTo, table}
 use Rattle.paper.specs.Machines.{none}
+use Rattle.paper.specs.Policies.{partsOf}
+unfoldable pub use Rattle.paper.specs.Policies.{ceil}
+pub use Rattle.paper.specs.Policies.{g, lruBound, fifoBound, nmruBound}
 use Rattle.paper.specs.Cases.{Fact, Case, inside, scopeOf}
 use Rattle.paper.specs.Graphs.{count, entries}
 
--- k / n, rounded up
-unfoldable pub ceil : ℕ → ℕ → ℕ
-ceil k n = (k + (n - 1)) / n
-
--- "g = ceil(k/(l-1))"
-abbrev pub g : ℕ → ℕ → ℕ
-g k l = ceil k (l - 1)
-
--- The table, a policy's lines each: ways k, limit l, entries E and fetches N.
--- "LRU: E"
-abbrev pub lruBound : ℕ → ℕ → ℕ → ℕ → ℕ
-lruBound k l E N = E
-
--- "FIFO, l = 1: E"; "FIFO, l >= 2: E + floor((N-E)/g)"
-abbrev pub fifoBound : ℕ → ℕ → ℕ → ℕ → ℕ
-fifoBound k l E N = cond (ltb l 2) E (E + (N - E) / g k l)
-
--- "NMRU, l = 1: E"; "NMRU, l >= 2: the lesser of N and l times E"
-abbrev pub nmruBound : ℕ → ℕ → ℕ → ℕ → ℕ
-nmruBound k l E N = cond (ltb l 2) E (min N (l * E))
-
--- "bound of a fact", by policy
+-- "bound of a fact": the policy's lines of the table
 unfoldable pub boundOf : ℕ → ℕ → ℕ → ℕ → ℕ → ℕ
-boundOf policy k l E N = cond (eqb policy 0) (lruBound k l E N) (cond (eqb policy 1) (fifoBound k l E N) (nmruBound k l E N))
+boundOf policy k l E N = partsOf policy .bound k l E N
 
 -- "floor(k·M(l)/(k-l+1))", for the number M
 unfoldable pub floorOf : ℕ → ℕ → ℕ → ℕ
@@ -102,13 +84,13 @@ module _ (e : Case) where
   unfoldable pub floorAt : ℕ → ℕ → ℕ
   floorAt q j = floorOf (e .ways) (suc j) (M (suc j) q)
 
-  -- "For FIFO, the least of A and" the floors
-  abbrev pub fifoSetBound : ℕ → ℕ
-  fifoSetBound q = lowestTo (floorAt q) (A q) (e .ways)
+  -- "the least of A and" the floors
+  abbrev pub leastFloor : ℕ → ℕ
+  leastFloor q = lowestTo (floorAt q) (A q) (e .ways)
 
-  -- "Set bound: for LRU and NMRU, A."
+  -- "Set bound: for LRU and NMRU, A." "For FIFO, the least of A and" the floors.
   unfoldable pub setBound : ℕ → ℕ
-  setBound q = cond (eqb (e .policy) 1) (fifoSetBound q) (A q)
+  setBound q = cond (partsOf (e .policy) .floors) (leastFloor q) (A q)
 
   -- "Total: the sum over sets."
   unfoldable pub totalBound : ℕ

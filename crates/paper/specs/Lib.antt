@@ -1,5 +1,7 @@
 pub mod Answers
 pub mod Lists
+pub mod Steps
+pub mod Policies
 pub mod Machines
 pub mod Operations
 pub mod Traces

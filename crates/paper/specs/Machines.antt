@@ -1,89 +1,26 @@
--- "The three machines", for every number of ways k at once, and the legal states.
-use Prim.Native.Nat.{ℕ, zero, suc, _-_, _/_, _%_, _^_}
-use mathlib.Core.Bool.{Bool, true, false, cond, not, _&&_, _||_}
-use mathlib.Core.List.{List, [], _∷_, _++_}
+-- The machine of a policy, by the policy's number: which there are, one step, and the legal states.
+use Prim.Native.Nat.{ℕ}
+use mathlib.Core.Bool.{Bool, true, false, cond, _&&_}
+use mathlib.Core.List.{List, [], _∷_}
 use lib.Dec.{eqb, ltb, leb}
-use lib.ListN.{take, drop, set, replicate}
-use lib.Bits.{bitOr}
-use Rattle.paper.specs.Lists.{least}
+use lib.ListN.{drop, replicate}
 use Rattle.paper.specs.declared.SetState.{SetState}
 use Rattle.paper.specs.declared.Stepped.{Stepped}
-
--- "A block is a number 0 to 65,534; 65,535 means none."
-abbrev pub none : ℕ
-none = 65535
+use Rattle.paper.specs.Policies.{lastPolicy, partsOf}
+pub use Rattle.paper.specs.Steps.{none, oneDown}
+unfoldable pub use Rattle.paper.specs.Steps.{lineOf, hits, pushed, lruStep, fifoStep, bitAt, victim, marked, nmruLine, nmruStep}
 
 -- "all sets start empty with bits 0"
 abbrev pub emptySet : SetState
 emptySet = record { lines = replicate 8 none; bits = 0 }
 
--- The line that b stands in; as many as there are lines where it stands in none.
-unfoldable pub lineOf : List ℕ → ℕ → ℕ
-lineOf [] b = 0
-lineOf (x ∷ lines) b = cond (eqb x b) 0 (suc (lineOf lines b))
-
--- b stands in one of the k ways.
-unfoldable pub hits : ℕ → List ℕ → ℕ → Bool
-hits k lines b = ltb (lineOf (take k lines) b) k
-
--- b comes to line 0 and lines 0 to j-1 one down; what stood in line j is there no more.
-unfoldable pub pushed : ℕ → List ℕ → ℕ → List ℕ
-pushed j lines b = b ∷ (take j lines ++ drop (suc j) lines)
-
--- "A miss moves all one down; the last is lost."
-abbrev pub oneDown : ℕ → List ℕ → ℕ → List ℕ
-oneDown k lines b = pushed (k - 1) lines b
-
--- "LRU. Line 0 is the youngest. A hit at line j moves the block to line 0 and lines 0 to j-1 one down."
-unfoldable pub lruStep : ℕ → SetState → ℕ → Stepped
-lruStep k s b =
-    record {
-      state =
-          record {
-            lines = cond (hits k (s .lines) b) (pushed (lineOf (take k (s .lines)) b) (s .lines) b) (oneDown k (s .lines) b);
-            bits = s .bits;
-          };
-      hit = hits k (s .lines) b;
-    }
-
--- "FIFO. A miss as in LRU. A hit changes nothing."
-unfoldable pub fifoStep : ℕ → SetState → ℕ → Stepped
-fifoStep k s b =
-    record {
-      state = record { lines = cond (hits k (s .lines) b) (s .lines) (oneDown k (s .lines) b); bits = s .bits };
-      hit = hits k (s .lines) b;
-    }
-
--- "Bit i, of value 2^i, is line i's."
-unfoldable pub bitAt : ℕ → ℕ → ℕ
-bitAt bits i = bits / 2 ^ i % 2
-
--- "A miss takes the lowest line whose bit is 0, even where another line is empty."
-unfoldable pub victim : ℕ → ℕ → ℕ
-victim k bits = least (λ i. eqb (bitAt bits i) 0) k
-
--- "The accessed line's bit becomes 1; if then all k bits are 1, all the others become 0."
-unfoldable pub marked : ℕ → ℕ → ℕ → ℕ
-marked k bits j = cond (eqb (bitOr bits (2 ^ j) % 2 ^ k) (2 ^ k - 1)) (2 ^ j) (bitOr bits (2 ^ j))
-
--- "NMRU": the line that an access of b goes to.
-unfoldable pub nmruLine : ℕ → SetState → ℕ → ℕ
-nmruLine k s b = cond (hits k (s .lines) b) (lineOf (take k (s .lines)) b) (victim k (s .bits))
-
-unfoldable pub nmruStep : ℕ → SetState → ℕ → Stepped
-nmruStep k s b =
-    record {
-      state = record { lines = set (s .lines) (nmruLine k s b) b; bits = marked k (s .bits) (nmruLine k s b) };
-      hit = hits k (s .lines) b;
-    }
-
--- "policy (0 LRU, 1 FIFO, 2 NMRU)"
+-- the step of the policy's machine
 unfoldable pub step : ℕ → ℕ → SetState → ℕ → Stepped
-step policy k s b = cond (eqb policy 0) (lruStep k s b) (cond (eqb policy 1) (fifoStep k s b) (nmruStep k s b))
+step policy k s b = partsOf policy .step k s b
 
--- "A set has k ways (LRU, FIFO 1 to 8; NMRU 2 to 8)"
+-- "A set has k ways": the policy is one of the three, and has so many
 unfoldable pub offered : ℕ → ℕ → Bool
-offered policy k = leb policy 2 && (leb k 8 && ltb (cond (eqb policy 2) 1 0) k)
+offered policy k = leb policy lastPolicy && partsOf policy .ways k
 
 -- "With S sets (1 to 64)"
 unfoldable pub setCount : ℕ → Bool
@@ -106,9 +43,9 @@ unfoldable pub empty : List ℕ → Bool
 empty [] = true
 empty (x ∷ lines) = cond (eqb x none) (empty lines) false
 
--- "the bits are 0 for LRU and FIFO; for NMRU the bits from k on are 0 and at least one of the low k is 0"
+-- the policy's legal bits are those below a number
 unfoldable pub legalBits : ℕ → ℕ → ℕ → Bool
-legalBits policy k bits = cond (eqb policy 2) (ltb bits (2 ^ k - 1)) (eqb bits 0)
+legalBits policy k bits = ltb bits (partsOf policy .bits k)
 
 unfoldable pub legal : ℕ → ℕ → SetState → Bool
 legal policy k s = distinct (s .lines) && (empty (drop k (s .lines)) && legalBits policy k (s .bits))

@@ -6,6 +6,7 @@ mod cache;
 mod ceilings;
 mod eight;
 mod methods;
+mod policies;
 
 pub use cache::home;
 pub use cache::home_in;
@@ -24,6 +25,11 @@ pub use ceilings::MOST_NODES;
 pub use ceilings::SETS_FROM;
 pub use eight::kept_from;
 pub use methods::shift_of;
+pub use policies::FIFO;
+pub use policies::LRU;
+pub use policies::NMRU;
+pub use policies::bits_below;
+pub use policies::has_floors;
 
 // "Addresses, block numbers and set numbers, which the sources distinguish, are each kept apart."
 pub struct Address(pub u32);

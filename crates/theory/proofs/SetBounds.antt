@@ -11,6 +11,7 @@ use Rattle.paper.specs.Lists.{lowestTo}
 use Rattle.paper.specs.Machines.{none}
 use Rattle.paper.specs.Cases.{Case}
 use Rattle.paper.specs.Walks.{Walk, KeepsLimits}
+use Rattle.paper.specs.Policies.{partsOf}
 use Rattle.paper.specs.Bounds.{lives, anyFact, factBound, A, floorAt, setBound, totalBound}
 use Rattle.paper.proofs.Meaning.{Sound}
 use Rattle.paper.proofs.Says.{says-is}
@@ -43,7 +44,7 @@ module _ (e : Case) (s : Sound e) (w : List ℕ) (walk : Walk e w) (kept : Keeps
   set-bounded P is o c fine q l = go P is o c fine
     where
       bound : ℕ → ℕ
-      bound p = cond (eqb p 1) (lowestTo (floorAt e q) (A e q) (e .ways)) (A e q)
+      bound p = cond (partsOf p .floors) (lowestTo (floorAt e q) (A e q) (e .ways)) (A e q)
 
       go : (P : Policy) → e .policy ≡ number P → (o : fewest P ≤ e .ways) (c : Held e (ideal P (e .ways))) → Fine e (ideal P (e .ways)) c →
           paid (inSet e q) (misses e (ideal P (e .ways)) w c) ≤ bound (e .policy)

@@ -82,7 +82,7 @@ module _ (k : ℕ) (o : Offered 2 k) where
         record {
           apart = f .apart;
           lines-k = f .lines-k;
-          few = legal-few 2 k (s .bits) refl (is-legal 2 k (o .most) s v .bits);
+          few = legal-few 2 k (s .bits) (omega arith) (is-legal 2 k (o .most) s v .bits);
         }
 
     same-spot : (x : ℕ) → nmruLine k s x ≡ spot k x (ways s)
@@ -116,7 +116,7 @@ module _ (k : ℕ) (o : Offered 2 k) where
             rw (after s v x)
             (joined 2 k (o .most) s v _ _
             (record { apart = next x s v .apart; lines-k = next x s v .lines-k })
-            (few-legal 2 k (nmru k x (ways s) .bits) refl (next x s v .few)));
+            (few-legal 2 k (nmru k x (ways s) .bits) (omega arith) (next x s v .few)));
         step = λ x s v.
             ap ways (after s v x)
             ∙ ap (λ (l : List ℕ). record { lines = l; bits = nmru k x (ways s) .bits }) (take-at (nmru k x (ways s) .lines) (drop k (s .lines)) k (next x s v .lines-k));

@@ -161,10 +161,10 @@ fn run(policy: u8, k: usize, sets: u8, blocks: &[u16], marks: &mut [u8]) -> usiz
     requires { ⌜ Runs policy k sets (now blocks) (now marks) ⌝ }
     ensures { λ r. ⌜ Ran policy k sets (now (blocks .entry)) (now (marks .entry)) r (now (marks .exit)) ⌝ }
 {
-    if policy == 0 {
+    if policy == paper::LRU {
         return lru_run(k, sets, blocks, marks);
     }
-    if policy == 1 {
+    if policy == paper::FIFO {
         return fifo_run(k, sets, blocks, marks);
     }
     nmru_run(k, sets, blocks, marks)

@@ -8,15 +8,15 @@ use Rattle.formulas.proofs.bound_of.Tie as tie
 
 returns : tie.Need-returns
 unfolding boundOf
-returns c = rw (eq-eqb _ _ (c .if1 .taken)) refl
+returns c = rw (boundOf, eq-eqb _ _ (c .if1 .taken)) refl
 
 returns-2 : tie.Need-returns-2
 unfolding boundOf
-returns-2 c = rw (ne-eqb _ _ (c .before .before .if1 .left), eq-eqb _ _ (c .before .if2 .taken)) (c .fifo-bound .ensures)
+returns-2 c = rw (boundOf, ne-eqb _ _ (c .before .before .if1 .left), eq-eqb _ _ (c .before .if2 .taken)) (c .fifo-bound .ensures)
 
 returns-3 : tie.Need-returns-3
 unfolding boundOf
-returns-3 c = rw (ne-eqb _ _ (c .before .before .if1 .left), ne-eqb _ _ (c .before .if2 .left)) (c .nmru-bound .ensures)
+returns-3 c = rw (boundOf, ne-eqb _ _ (c .before .before .if1 .left), ne-eqb _ _ (c .before .if2 .left)) (c .nmru-bound .ensures)
 
 pub bound-of-spec : {M : Type 1} → statement M
 bound-of-spec = tie.close (tie.spec returns (λ c κs. search needs) returns-2 (λ c κs. search needs) returns-3)

@@ -27,7 +27,7 @@ lru-requires c κs =
 
 returns : tie.Need-returns
 unfolding step
-returns c = c .lru .ensures ∙ sym (rw (eq-eqb _ _ (c .before .before .before .if1 .taken)))
+returns c = c .lru .ensures ∙ sym (rw (step, eq-eqb _ _ (c .before .before .before .if1 .taken)))
 
 kept-from-requires : tie.Need-kept-from-requires
 kept-from-requires c κs = says-true (says-offered _ _) (c .before .before .pre .0) .most
@@ -39,7 +39,7 @@ fifo-requires c κs =
 
 returns-2 : tie.Need-returns-2
 unfolding step
-returns-2 c = c .fifo .ensures ∙ sym (rw (ne-eqb _ _ (c .before .before .before .if1 .left), eq-eqb _ _ (c .before .before .if2 .taken)))
+returns-2 c = c .fifo .ensures ∙ sym (rw (step, ne-eqb _ _ (c .before .before .before .if1 .left), eq-eqb _ _ (c .before .before .if2 .taken)))
 
 line-requires : tie.Need-line-requires
 line-requires c κs =
@@ -58,7 +58,7 @@ returns-3 : tie.Need-returns-3
 unfolding step
 returns-3 c =
     let d = c .before .before .before .before in
-    c .nmru .ensures ∙ sym (rw (ne-eqb _ _ (d .before .if1 .left), ne-eqb _ _ (d .if2 .left)))
+    c .nmru .ensures ∙ sym (rw (step, ne-eqb _ _ (d .before .if1 .left), ne-eqb _ _ (d .if2 .left)))
 
 pub take-step-spec : {M : Type 1} → statement M
 take-step-spec =
