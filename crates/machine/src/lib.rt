@@ -35,7 +35,7 @@ fn take_step(policy: u8, k: usize, state: SetState, block: Block) -> Stepped
         return state.fifo(k, block, paper::kept_from(k));
     }
     let next = next_bits();
-    let line = state.line(k, block);
+    let line = state.line(k, block, 0);
     state.nmru(k, block, line, &next)
 }
 

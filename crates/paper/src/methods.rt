@@ -115,8 +115,8 @@ impl SetState {
         stepped(moved(beyond, lines, block.0), self.bits, false)
     }
 
-    // The line that an NMRU access goes to.
-    pub fn line(self, k: usize, block: Block) -> Line
+    // The line that an NMRU access goes to. A guess at its bit comes with the block: where it is right the processor need not wait for the search, and where it is not nothing else changes.
+    pub fn line(self, k: usize, block: Block, guess: u8) -> Line
         requires { ⌜ Ready k (self .lines) ⌝ }
         requires { ⌜ block .0 ≢ none ⌝ }
         requires { ⌜ self .bits + 1 < 2 ^ k ⌝ }
@@ -124,6 +124,13 @@ impl SetState {
     {
         let lines = self.lines;
         let w = weight(lines, block.0);
+        let guessed = (guess % 255) as u16;
+        if w == 255 - guessed {
+            return Line {
+                bit: guessed,
+                hit: true,
+            };
+        }
         if 0 < w {
             return Line {
                 bit: 255 - w,

@@ -129,6 +129,8 @@ fn nmru_run(k: usize, sets: u8, blocks: &[u16], marks: &mut [u8]) -> usize
 {
     let all = paper::sets_of(sets);
     let next = machine::next_bits();
+    // The line's bit where a block last came in, as the guess at its line: a block stays in its line until it is lost. Blocks 1,024 apart share a place.
+    let mut guesses = [0u8; 1024];
     let mut states = [SetState {
         lines: [65535u16; 8],
         bits: 0,
@@ -145,7 +147,11 @@ fn nmru_run(k: usize, sets: u8, blocks: &[u16], marks: &mut [u8]) -> usize
             state = states[at];
             last = at;
         }
-        let line = state.line(k, Block(b));
+        let place = (b % 1024) as usize;
+        let line = state.line(k, Block(b), guesses[place]);
+        if !line.hit {
+            guesses[place] = (line.bit % 256) as u8;
+        }
         let t = state.nmru(k, Block(b), line, &next);
         let m = mark_of(t.hit);
         state = t.state;

@@ -3,7 +3,7 @@ use Prim.Native.Nat.{ℕ, _-_, _%_, _<_}
 use native.Mathlib.Omega.{arith}
 use mathlib.Core.Path.{_≡_, refl, ap, _∙_}
 use mathlib.Core.Logic.{⊎-elim}
-use lib.ListN.{length, getD}
+use lib.ListN.{length, getD, length-set}
 use borrow.Author.Needs.{needs}
 use Rattle.paper.specs.declared.Sets.{Sets}
 use Rattle.trace.specs.TraceRuns.{heldApart}
@@ -13,16 +13,16 @@ use Rattle.trace.proofs.nmru_run.Statement.{statement}
 use Rattle.trace.proofs.nmru_run.Tie as tie
 
 abbrev Inv-loop : tie.InvT-loop
-Inv-loop k sets blocks marks₀ all next states₀ state₀ last₀ misses₀ i₀ marks states state last misses i =
-    Going 2 k sets blocks marks₀ marks (heldApart states last state) misses i × (length states ≡ 64) × (last < 64)
+Inv-loop k sets blocks marks₀ all next guesses₀ states₀ state₀ last₀ misses₀ i₀ marks guesses states state last misses i =
+    Going 2 k sets blocks marks₀ marks (heldApart states last state) misses i × (length states ≡ 64) × (last < 64) × (length guesses ≡ 1024)
 
 abbrev μ-loop : tie.MeasureT-loop
-μ-loop k sets blocks marks₀ all next states₀ state₀ last₀ misses₀ i₀ marks states state last misses i = length blocks - i
+μ-loop k sets blocks marks₀ all next guesses₀ states₀ state₀ last₀ misses₀ i₀ marks guesses states state last misses i = length blocks - i
 
 loop-holds : tie.Need-loop-holds Inv-loop μ-loop
 loop-holds c =
     let s = c .before .before .before .before .before in
-    (going-start 2 _ _ _ _ (s .pre) _ (λ q. apart-empty 64 0 q), refl, omega arith)
+    (going-start 2 _ _ _ _ (s .pre) _ (λ q. apart-empty 64 0 q), refl, omega arith, refl)
 
 home-in-requires : tie.Need-home-in-requires Inv-loop μ-loop
 home-in-requires c κs =
@@ -52,17 +52,29 @@ line-requires c κs =
 
 nmru-requires : tie.Need-nmru-requires Inv-loop μ-loop
 nmru-requires c κs =
-    let d = c .before .before in
+    let d = c .before .before .before .before in
     let f = d .if1 in
     let v = d .before .before .before .before .loop in
     let p = d .before .before .before .before .before .before .before .before .before .before .pre in
     let g = going-same 2 _ _ _ _ p _ _ _ _ (v .inv .0) (heldApart (f .states) (f .last) (f .state)) (turned d .same) in
     let r = set-ready 2 _ _ _ _ p _ _ _ _ g (f .state) (f .last) (apart-here _ _ _) in
-    (r, (set-bits 2 _ _ _ _ p _ _ _ _ g (f .state) (f .last) (apart-here _ _ _) refl, (c .before .line .ensures, d .before .before .before .before .before .before .next-bits .ensures)))
+    (r, (set-bits 2 _ _ _ _ p _ _ _ _ g (f .state) (f .last) (apart-here _ _ _) refl, (c .before .before .before .line .ensures, d .before .before .before .before .before .before .next-bits .ensures)))
+
+-- as many guesses as before
+as-many : (c : tie.Joined2 Inv-loop μ-loop) → length (c .if2 .guesses) ≡ length (c .before .before .before .before .before .before .before .loop .guesses)
+as-many c =
+    let d = c .before .before .before in
+    let v = d .before .before .before .before .loop in
+    let s = d .before .before .before .before .before .before .before .before .before .before in
+    let b = getD (s .args .blocks .now) (v .i) 0 in
+    ⊎-elim
+    (λ w. ap length (w .2) ∙ length-set (v .guesses) (b % 1024) (c .before .before .line .result .bit % 256))
+    (λ w. ap length (w .1))
+    (c .if2 .came)
 
 loop-again : tie.Need-loop-again Inv-loop μ-loop
 loop-again c =
-    let d = c .before .before .before .before .before in
+    let d = c .before .before .before .before .before .before .before in
     let f = d .if1 in
     let v = d .before .before .before .before .loop in
     let a = d .before .home-in in
@@ -77,6 +89,7 @@ loop-again c =
           (heldApart (f .states) (f .last) (t .result .state)) (apart-here _ _ _) (apart-other _ _ _ _) _ (c .before .mark-of .ensures .0) (c .before .mark-of .ensures .1),
       u .long ∙ v .inv .1,
       omega (arith, u .here, a .ensures .1),
+      as-many (c .before .before .before .before) ∙ v .inv .3,
     )
 
 pub nmru-run-spec : {M : Type 1} → statement M
@@ -96,7 +109,11 @@ nmru-run-spec =
     (λ c. search needs)
     (λ c. search needs)
     (λ c. search needs)
+    (λ c. search needs)
+    (λ c. search needs)
     line-requires
+    (λ c. search needs)
+    (λ c. search needs)
     nmru-requires
     (λ c κs. search needs)
     (λ c. search needs)
