@@ -129,7 +129,7 @@ fn nmru_run(k: usize, sets: u8, blocks: &[u16], marks: &mut [u8]) -> usize
 {
     let all = paper::sets_of(sets);
     let next = machine::next_bits();
-    // The line's bit where a block last came in, as the guess at its line: a block stays in its line until it is lost. Blocks 1,024 apart share a place.
+    // The line's bit where a block last came in, less 1, as the guess at its line: a block stays in its line until it is lost. Blocks 1,024 apart share a place. From 1 to 128 the compiler sees that a guess is below 255.
     let mut guesses = [0u8; 1024];
     let mut states = [SetState {
         lines: [65535u16; 8],
@@ -148,9 +148,9 @@ fn nmru_run(k: usize, sets: u8, blocks: &[u16], marks: &mut [u8]) -> usize
             last = at;
         }
         let place = (b % 1024) as usize;
-        let line = state.line(k, Block(b), guesses[place]);
+        let line = state.line(k, Block(b), guesses[place] % 128 + 1);
         if !line.hit {
-            guesses[place] = (line.bit % 256) as u8;
+            guesses[place] = ((line.bit % 256 + 127) % 128) as u8;
         }
         let t = state.nmru(k, Block(b), line, &next);
         let m = mark_of(t.hit);

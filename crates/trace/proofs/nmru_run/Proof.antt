@@ -1,5 +1,5 @@
 -- `trace::nmru_run` meets its contract, by the law of the loop.
-use Prim.Native.Nat.{ℕ, _-_, _%_, _<_}
+use Prim.Native.Nat.{ℕ, _+_, _-_, _%_, _<_}
 use native.Mathlib.Omega.{arith}
 use mathlib.Core.Path.{_≡_, refl, ap, _∙_}
 use mathlib.Core.Logic.{⊎-elim}
@@ -68,7 +68,7 @@ as-many c =
     let s = d .before .before .before .before .before .before .before .before .before .before in
     let b = getD (s .args .blocks .now) (v .i) 0 in
     ⊎-elim
-    (λ w. ap length (w .2) ∙ length-set (v .guesses) (b % 1024) (c .before .before .line .result .bit % 256))
+    (λ w. ap length (w .2) ∙ length-set (v .guesses) (b % 1024) ((c .before .before .line .result .bit % 256 + 127) % 128))
     (λ w. ap length (w .1))
     (c .if2 .came)
 
@@ -111,7 +111,9 @@ nmru-run-spec =
     (λ c. search needs)
     (λ c. search needs)
     (λ c. search needs)
+    (λ c. search needs)
     line-requires
+    (λ c. search needs)
     (λ c. search needs)
     (λ c. search needs)
     nmru-requires
