@@ -70,23 +70,23 @@ uint8_t bolgverk_set_of(uint16_t block, uint8_t sets, uint8_t *set);
  *    4  a number of nodes, edges, loops or facts out of range                                                0
  *    5  an offset is wrong, or the facts would start past the trailer                                        0
  *    6  an edge's end is no node, or the edge does not come after the one before it                          edge
- *    7  a loop: its range, its bound, its order, or it crosses an earlier one                                loop
+ *    7  a loop's first node above its last, its last no node, its bound not 1 to 1,000,000, its first node not above that of the loop before it, or it crosses an earlier one loop
  *    8  a forward edge enters a loop beside its header                                                       edge
  *    9  a backward edge does not lead to the header of a loop around its source                              edge
  *   10  a node's count is above 4,294,967,295                                                                node
  *   11  fewer than 6 bytes are left for a fact                                                               fact
  *   12  a fact's loop number, block or age limit out of range                                                fact
- *   13  a fact does not come after the one before it                                                         fact
+ *   13  a fact's block is below the previous fact's, or equal and its scope starts at or before the previous scope's last node fact
  *   14  no node of a fact's scope fetches its block                                                          fact
  *   15  a fact's rows are cut short                                                                          fact
  *   16  a row is not sound                                                                                   fact
  *   17  two rows break the rule of an edge between their nodes                                               fact
  *   18  a node that fetches the fact's block has row 8 ("many")                                              fact
  *   19  bytes are left between the last fact and the trailer                                                 0
- *   20  the lent list is too short                                                                           0
+ *   20  the lent list is too short: 321 numbers, or one byte an access                                       0
  *   21  block 65,535 is accessed, or an address's block is above 65,534                                      access, else 0
  *   22  the set's state is not legal                                                                         0
- *   23  the line size is not listed                                                                          0
+ *   23  the line size is none of 8, 16, 32, 64, 128                                                          0
  */
 
 #ifdef __cplusplus
