@@ -33,10 +33,8 @@ check-spec =
     (tie.spec
     (λ c κs. search needs)
     returns
-    (λ c κs. search needs)
-    (λ c. search needs)
+    (λ c κs. search needs) (λ c. search needs)
     rule-on-requires
-    (λ c. search needs)
-    (λ c. search needs)
+    (λ c. search needs) (λ c. search needs)
     returns-2
     returns-3)

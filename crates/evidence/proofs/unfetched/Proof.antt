@@ -39,7 +39,6 @@ unfetched-spec =
     (λ c. passed-start _ _)
     (λ c κs. search needs)
     returns
-    (λ c. search needs)
-    (λ c. search needs)
+    (λ c. search needs) (λ c. search needs)
     loop-again
     returns-2)

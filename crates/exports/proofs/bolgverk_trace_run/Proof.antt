@@ -21,10 +21,7 @@ pub bolgverk-trace-run-spec : {M : Type 1} → statement M
 bolgverk-trace-run-spec =
     tie.close
     (tie.spec
-    (λ c κs. search needs)
-    (λ c. search needs)
-    (λ c. search needs)
-    (λ c. search needs)
+    (λ c κs. search needs) (λ c. search needs) (λ c. search needs) (λ c. search needs)
     returns
     (λ c. search needs)
     returns-2)

@@ -24,11 +24,8 @@ loops-of-spec =
     Inv-loop
     μ-loop
     (λ c. read-start _ _ _ refl)
-    (λ c κs. search needs)
-    (λ c. search needs)
-    (λ c. search needs)
+    (λ c κs. search needs) (λ c. search needs) (λ c. search needs)
     (λ c. let laid = c .before .before .before .before .before .pre in omega (arith, laid .loops-high))
-    (λ c. search needs)
-    (λ c. omega arith)
+    (λ c. search needs) (λ c. omega arith)
     loop-again
     (λ c. read-end _ _ _ _ (c .before .before .loop .inv) (c .if1 .left)))

@@ -35,10 +35,7 @@ binary-spec =
     Inv-loop
     μ-loop
     (λ c. (left-start, search needs))
-    (λ c. search needs)
-    (λ c. search needs)
-    (λ c. search needs)
-    (λ c. search needs)
+    (λ c. search needs) (λ c. search needs) (λ c. search needs) (λ c. search needs)
     room
     (λ c. omega (arith, room c))
     (λ c. search needs)

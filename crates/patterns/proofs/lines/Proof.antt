@@ -39,8 +39,7 @@ lines-spec =
     μ-loop
     (λ c. (left-start, search needs))
     line-requires
-    (λ c. search needs)
-    (λ c. search needs)
+    (λ c. search needs) (λ c. search needs)
     loop-again
     (λ c. search needs)
     returns)

@@ -40,8 +40,7 @@ word-spec =
     (λ c. search needs)
     slice-write-out
     add-to
-    (λ c. search needs)
-    (λ c. search needs)
+    (λ c. search needs) (λ c. search needs)
     loop-again
     (λ c. search needs)
     returns)

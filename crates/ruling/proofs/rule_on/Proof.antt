@@ -43,16 +43,13 @@ pub rule-on-spec : {M : Type 1} → statement M
 rule-on-spec =
     tie.close
     (tie.spec
-    (λ c. search needs)
-    (λ c κs. search needs)
-    (λ c. search needs)
+    (λ c. search needs) (λ c κs. search needs) (λ c. search needs)
     returns
     (λ c. search needs)
     fact-rules-requires
     (λ c. search needs)
     returns-2
-    (λ c. search needs)
-    (λ c. search needs)
+    (λ c. search needs) (λ c. search needs)
     charge-requires
     (λ c. search needs)
     returns-3)

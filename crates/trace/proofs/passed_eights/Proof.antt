@@ -33,7 +33,6 @@ passed-eights-spec =
     (λ c. search needs)
     has-none-requires
     (λ c. c .before .before .before .loop .inv)
-    (λ c. search needs)
-    (λ c. search needs)
+    (λ c. search needs) (λ c. search needs)
     loop-again
     (λ c. c .before .loop .inv))

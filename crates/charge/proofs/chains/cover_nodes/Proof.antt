@@ -82,9 +82,7 @@ cover-nodes-spec =
     (tie.spec
     Inv-loop
     μ-loop
-    (λ c. omega arith)
-    (λ c. omega arith)
-    (λ c. omega arith)
+    (λ c. omega arith) (λ c. omega arith) (λ c. omega arith)
     loop-holds
     (λ c. omega (arith, c .if1 .taken))
     (λ c. omega (arith, low c))

@@ -66,8 +66,7 @@ charge-each-spec =
     (tie.spec
     Inv-loop
     μ-loop
-    (λ c. search needs)
-    (λ c κs. search needs)
+    (λ c. search needs) (λ c κs. search needs)
     loop-holds
     charge-fact-requires
     add-requires

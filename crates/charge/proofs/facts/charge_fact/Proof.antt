@@ -48,7 +48,6 @@ charge-fact-spec =
     (λ c κs. let p = c .before .before .pre in (p .0, (p .1 .1 .1 .0, p .1 .1 .1 .1 .0)))
     entries-of-requires
     (λ c κs. let p = start (c .before .before) .pre in (p .0, (p .1 .1 .0, p .1 .1 .1 .1 .1)))
-    (λ c. search needs)
-    (λ c. search needs)
+    (λ c. search needs) (λ c. search needs)
     bound-of-requires
     returns)

@@ -58,8 +58,7 @@ entries-of-spec =
     returns-2
     (λ c. search needs)
     loop-at-requires
-    (λ c. search needs)
-    (λ c. search needs)
+    (λ c. search needs) (λ c. search needs)
     (λ c. omega (arith, header (found c) .0, start (found c .before .before .before) .pre .0 .counted .room))
     (λ c. omega (arith, header (found c) .1 .1))
     (λ c. header (found c) .1))

@@ -54,11 +54,9 @@ bad-blocks-spec =
     Inv-loop
     μ-loop
     (λ c. (passed-start _ _, lowest-start _))
-    (λ c κs. search needs)
-    (λ c κs. search needs)
+    (λ c κs. search needs) (λ c κs. search needs)
     returns
     add-low
-    (λ c. search needs)
-    (λ c. search needs)
+    (λ c. search needs) (λ c. search needs)
     loop-again
     returns-2)

@@ -43,8 +43,7 @@ pub bad-row-spec : {M : Type 1} → statement M
 bad-row-spec =
     tie.close
     (tie.spec
-    (λ c κs. search needs)
-    (λ c κs. search needs)
+    (λ c κs. search needs) (λ c κs. search needs)
     returns
     (λ c κs. search needs)
     returns-2

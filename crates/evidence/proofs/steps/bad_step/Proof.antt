@@ -39,8 +39,7 @@ bad-step-spec =
     (tie.spec
     (λ c κs. search needs)
     returns
-    (λ c κs. search needs)
-    (λ c. search needs)
+    (λ c κs. search needs) (λ c. search needs)
     sub-breaks-2
     breaks-requires
     returns-2)

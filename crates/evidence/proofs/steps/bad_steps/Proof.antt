@@ -70,7 +70,6 @@ bad-steps-spec =
     returns
     bad-step-requires
     returns-2
-    (λ c. search needs)
-    (λ c. search needs)
+    (λ c. search needs) (λ c. search needs)
     loop-again
     returns-3)

@@ -72,11 +72,9 @@ pub breaks-spec : {M : Type 1} → statement M
 breaks-spec =
     tie.close
     (tie.spec
-    (λ c κs. search needs)
-    (λ c κs. search needs)
+    (λ c κs. search needs) (λ c κs. search needs)
     returns
-    (λ c κs. search needs)
-    (λ c κs. search needs)
+    (λ c κs. search needs) (λ c κs. search needs)
     returns-2
     returns-3
     returns-4

@@ -30,10 +30,7 @@ first-edge-spec =
     Inv-loop
     μ-loop
     (λ c. halves-start _ _ _)
-    (λ c. search needs)
-    (λ c κs. search needs)
-    (λ c. search needs)
-    (λ c. search needs)
+    (λ c. search needs) (λ c κs. search needs) (λ c. search needs) (λ c. search needs)
     loop-again
     (λ c. search needs)
     loop-again-2

@@ -55,14 +55,10 @@ first-edge-spec =
     Inv-loop
     μ-loop
     (λ c. passed-start _ _)
-    (λ c κs. search needs)
-    (λ c κs. search needs)
-    (λ c. search needs)
-    (λ c. search needs)
+    (λ c κs. search needs) (λ c κs. search needs) (λ c. search needs) (λ c. search needs)
     shared-slice-read-breaks
     (λ c κs. search needs)
     returns
-    (λ c. search needs)
-    (λ c. search needs)
+    (λ c. search needs) (λ c. search needs)
     loop-again
     (λ c. least-end _ _ _ (c .before .before .loop .inv) (c .if1 .left)))

@@ -38,8 +38,7 @@ fill-spec =
     loop-holds
     (λ c. search needs)
     slice-write-table
-    (λ c. search needs)
-    (λ c. search needs)
+    (λ c. search needs) (λ c. search needs)
     loop-again
     same-length
     returns)

@@ -69,24 +69,20 @@ mark-nodes-spec =
     (tie.spec
     Inv-loop
     μ-loop
-    (λ c. search needs)
-    (λ c κs. search needs)
-    (λ c κs. search needs)
+    (λ c. search needs) (λ c κs. search needs) (λ c κs. search needs)
     loop-holds
     (λ c κs.
     let i = c .before .before .before in
     let f = i .before .before .before .before in
     omega (arith, f .before .before .before .before .before .pre .0 .loops-high))
-    (λ c. search needs)
-    (λ c. search needs)
+    (λ c. search needs) (λ c. search needs)
     (λ c.
     let i = c .before .before .before in
     let f = i .before .before .before .before in
     omega (arith, i .before .loops-of .ensures .room, f .before .before .before .before .before .pre .0 .loops-high))
     (λ c κs. search needs)
     fill-requires-2
-    (λ c. search needs)
-    (λ c. search needs)
+    (λ c. search needs) (λ c. search needs)
     loop-again
     same-length
     returns)

@@ -66,9 +66,7 @@ mark-spec =
     add-at
     element-copy-out-result
     returns
-    (λ c. search needs)
-    (λ c. search needs)
-    (λ c. search needs)
+    (λ c. search needs) (λ c. search needs) (λ c. search needs)
     cast-result
     cast-result-2
     returns-2
