@@ -32,17 +32,17 @@ module _ (f lent : List ℕ) where
     pub layout-refused : (r : Refusal) → l ≡ Layouts.Refused r → CheckPromise f lent (Refused r) lent
     layout-refused r e = check-kept f lent (Refused r) lent (enough (Refused r) (sym (refused-rules f r _ (sym a ∙ e)))) refl
 
-    module _ (t : Trailer) (e : l ≡ Layouts.Read t) where
-      same : t ≡ trailerOf f
-      same = read-trailer f t (sym a ∙ e)
+    module _ (trailer : Trailer) (e : l ≡ Layouts.Read trailer) where
+      same : trailer ≡ trailerOf f
+      same = read-trailer f trailer (sym a ∙ e)
 
-      same-after : (r : Verdict) → written f t lent r ≡ lentAfter f lent r
+      same-after : (r : Verdict) → written f trailer lent r ≡ lentAfter f lent r
       same-after Accepted = ap (λ (s : Trailer). written f s lent Accepted) same
       same-after (Refused r) = refl
 
-      pub ruled-check : (r : Verdict) (after : List ℕ) → Ruled f t lent r after → CheckPromise f lent r after
+      pub ruled-check : (r : Verdict) (after : List ℕ) → Ruled f trailer lent r after → CheckPromise f lent r after
       ruled-check r after j =
           check-kept f lent r after
           (enough r
-          (j .answer ∙ ap (λ (s : Trailer). graphRules (caseOf f s) (factRules f s Accepted)) same ∙ sym (read-rules f t (sym a ∙ e) _)))
+          (j .answer ∙ ap (λ (s : Trailer). graphRules (caseOf f s) (factRules f s Accepted)) same ∙ sym (read-rules f trailer (sym a ∙ e) _)))
           (j .numbers ∙ same-after r)

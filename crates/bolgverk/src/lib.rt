@@ -48,7 +48,7 @@ pub fn check(file: &[u8], numbers: &mut [u64]) -> Verdict
     }
     let read = layout::layout_of(file);
     match read {
-        Layout::Read(t) => ruling::rule_on(file, t, numbers),
+        Layout::Read(trailer) => ruling::rule_on(file, trailer, numbers),
         Layout::Refused(r) => Verdict::Refused(r),
     }
 }

@@ -21,53 +21,53 @@ use Rattle.charge.proofs.SmallSums.{at-end}
 use Rattle.charge.proofs.Tallies.{grouped-more, grouped-open}
 
 -- a loop over the facts is at fact i, which stands at p
-pub record Adding (f : List ℕ) (t : Trailer) (old : List ℕ) (i p : ℕ) (cover charged entered numbers : List ℕ) : Type 0 where
-  pub within : i ≤ t .facts
-  pub place : p ≡ factPlace f t i
-  pub covered : Covered (caseOf f t) i cover
-  pub added : FactsAdded (caseOf f t) i charged entered
-  pub part : Part (caseOf f t) 0 0 i old numbers
+pub record Adding (f : List ℕ) (trailer : Trailer) (old : List ℕ) (i p : ℕ) (cover charged entered numbers : List ℕ) : Type 0 where
+  pub within : i ≤ trailer .facts
+  pub place : p ≡ factPlace f trailer i
+  pub covered : Covered (caseOf f trailer) i cover
+  pub added : FactsAdded (caseOf f trailer) i charged entered
+  pub part : Part (caseOf f trailer) 0 0 i old numbers
 
-module _ (f : List ℕ) (t : Trailer) (old : List ℕ) (i p : ℕ) (cover charged entered numbers : List ℕ) (w : Adding f t old i p cover charged entered numbers) where
-  pub adding-end : t .facts ≤ i → Covered (caseOf f t) (t .facts) cover × (FactsAdded (caseOf f t) (t .facts) charged entered × Part (caseOf f t) 0 0 (t .facts) old numbers)
+module _ (f : List ℕ) (trailer : Trailer) (old : List ℕ) (i p : ℕ) (cover charged entered numbers : List ℕ) (w : Adding f trailer old i p cover charged entered numbers) where
+  pub adding-end : trailer .facts ≤ i → Covered (caseOf f trailer) (trailer .facts) cover × (FactsAdded (caseOf f trailer) (trailer .facts) charged entered × Part (caseOf f trailer) 0 0 (trailer .facts) old numbers)
   adding-end h =
-      at-end (λ n. Covered (caseOf f t) n cover × (FactsAdded (caseOf f t) n charged entered × Part (caseOf f t) 0 0 n old numbers)) i (t .facts) (w .within) h
+      at-end (λ n. Covered (caseOf f trailer) n cover × (FactsAdded (caseOf f trailer) n charged entered × Part (caseOf f trailer) 0 0 n old numbers)) i (trailer .facts) (w .within) h
       (w .covered, (w .added, w .part))
 
-  pub adding-limits : Limits (caseOf f t) cover
-  adding-limits = covered-limits (caseOf f t) i cover (w .covered)
+  pub adding-limits : Limits (caseOf f trailer) cover
+  adding-limits = covered-limits (caseOf f trailer) i cover (w .covered)
 
-  module _ (c : List ℕ) (r : Ready f t c) (h : i < t .facts) where
-    pub head-at : SoundHead (caseOf f t) (factAt f p)
+  module _ (c : List ℕ) (r : Ready f trailer c) (h : i < trailer .facts) where
+    pub head-at : SoundHead (caseOf f trailer) (factAt f p)
     unfolding caseOf
-    head-at = rw (w .place) (fact-head f t (r .laid) (r .sound) i h)
+    head-at = rw (w .place) (fact-head f trailer (r .laid) (r .sound) i h)
 
-    pub end-at : factEnd f t p ≤ endAt f
+    pub end-at : factEnd f trailer p ≤ endAt f
     end-at = rw (w .place) (r .placed .ends i h)
 
-    limit-low : caseOf f t .fact i .limit < Sizes.limits
+    limit-low : caseOf f trailer .fact i .limit < Sizes.limits
     unfolding caseOf
-    limit-low = omega (arith, fact-head f t (r .laid) (r .sound) i h .high, r .laid .ways-high)
+    limit-low = omega (arith, fact-head f trailer (r .laid) (r .sound) i h .high, r .laid .ways-high)
 
-    module _ (k : Cost) (costs : k ≡ costOf f t p) where
-      pub adding-open : Open charged entered (k .block % t .sets) (k .limit) (k .bound) (k .entered)
+    module _ (k : Cost) (costs : k ≡ costOf f trailer p) where
+      pub adding-open : Open charged entered (k .block % trailer .sets) (k .limit) (k .bound) (k .entered)
       unfolding caseOf costOf
       adding-open =
           rw (costs, w .place)
-          (grouped-open _ _ _ _ i charged entered (w .added) (set-low f t (r .laid) (r .sound) _) limit-low (omega (arith, r .laid .facts-high))
-          (λ j q. let s = fact-small f t (r .laid) (r .sound) j (omega arith) in (s .0, omega (arith, s .1))))
+          (grouped-open _ _ _ _ i charged entered (w .added) (set-low f trailer (r .laid) (r .sound) _) limit-low (omega (arith, r .laid .facts-high))
+          (λ j q. let s = fact-small f trailer (r .laid) (r .sound) j (omega arith) in (s .0, omega (arith, s .1))))
 
       pub adding-more :
-          (new charged′ entered′ : List ℕ) → Lowered (caseOf f t) (covers (caseOf f t) (factAt f p)) (factAt f p .limit) cover new
-          → charged′ ≡ plus charged (k .block % t .sets) (k .bound) → entered′ ≡ plus entered (placeOf (k .block % t .sets) (k .limit)) (k .entered)
-          → Adding f t old (i + 1) (k .next) new charged′ entered′ (set numbers (factsFrom + i) (k .bound))
+          (new charged′ entered′ : List ℕ) → Lowered (caseOf f trailer) (covers (caseOf f trailer) (factAt f p)) (factAt f p .limit) cover new
+          → charged′ ≡ plus charged (k .block % trailer .sets) (k .bound) → entered′ ≡ plus entered (placeOf (k .block % trailer .sets) (k .limit)) (k .entered)
+          → Adding f trailer old (i + 1) (k .next) new charged′ entered′ (set numbers (factsFrom + i) (k .bound))
       unfolding caseOf costOf factPlace
       adding-more new charged′ entered′ low ec ee =
           rw (ec, ee, costs, w .place)
           (record {
             within = omega arith;
             place = rw add-one refl;
-            covered = covered-more (caseOf f t) i cover new (w .covered) (rw (← w .place) low);
-            added = grouped-more _ _ _ _ i charged entered (w .added) (set-low f t (r .laid) (r .sound) _) limit-low;
-            part = part-fact (caseOf f t) old i _ numbers (omega (arith, r .laid .facts-high)) refl (w .part);
+            covered = covered-more (caseOf f trailer) i cover new (w .covered) (rw (← w .place) low);
+            added = grouped-more _ _ _ _ i charged entered (w .added) (set-low f trailer (r .laid) (r .sound) _) limit-low;
+            part = part-fact (caseOf f trailer) old i _ numbers (omega (arith, r .laid .facts-high)) refl (w .part);
           })

@@ -123,38 +123,38 @@ entries-low e g t h =
     ]
 
 -- what the code reads: the table of the next loops out, and the counts
-module _ (f : List ℕ) (t : Trailer) (counts outers : List ℕ) (r : Ready f t counts) (o : Outers (caseOf f t) (t .loops) outers) (p w : ℕ) (ew : w ≡ factAt f p .scope) where
+module _ (f : List ℕ) (trailer : Trailer) (counts outers : List ℕ) (r : Ready f trailer counts) (o : Outers (caseOf f trailer) (trailer .loops) outers) (p w : ℕ) (ew : w ≡ factAt f p .scope) where
   -- "the whole graph with one entry"
-  pub entries-whole : w ≡ none → 1 ≡ entries (caseOf f t) (factAt f p)
+  pub entries-whole : w ≡ none → 1 ≡ entries (caseOf f trailer) (factAt f p)
   unfolding entries
   entries-whole h = rw (← ew, eq-eqb w none h) refl
 
-  module _ (n : w ≢ none) (hw : w < t .loops) where
-    of-loop : entries (caseOf f t) (factAt f p) ≡ entriesOf (caseOf f t) (caseOf f t .loop w)
+  module _ (n : w ≢ none) (hw : w < trailer .loops) where
+    of-loop : entries (caseOf f trailer) (factAt f p) ≡ entriesOf (caseOf f trailer) (caseOf f trailer .loop w)
     unfolding entries
     of-loop = rw (← ew, ne-eqb w none n) refl
 
-    pub entries-alone : getD outers w 0 ≡ 0 → 1 ≡ entries (caseOf f t) (factAt f p)
+    pub entries-alone : getD outers w 0 ≡ 0 → 1 ≡ entries (caseOf f trailer) (factAt f p)
     unfolding caseOf
-    entries-alone q = sym (of-loop ∙ outer-alone (caseOf f t) (r .sound .graph) w hw (sym (o .at w hw) ∙ q))
+    entries-alone q = sym (of-loop ∙ outer-alone (caseOf f trailer) (r .sound .graph) w hw (sym (o .at w hw) ∙ q))
 
     module _ (some : getD outers w 0 ≢ 0) where
-      next-loop : (getD outers w 0 - 1 < w) × (entriesOf (caseOf f t) (caseOf f t .loop w) ≡ count (caseOf f t) (caseOf f t .loop (getD outers w 0 - 1) .first))
+      next-loop : (getD outers w 0 - 1 < w) × (entriesOf (caseOf f trailer) (caseOf f trailer .loop w) ≡ count (caseOf f trailer) (caseOf f trailer .loop (getD outers w 0 - 1) .first))
       unfolding caseOf
       next-loop =
           let z : getD outers w 0 ≡ suc (getD outers w 0 - 1) = omega arith in
-          outer-next (caseOf f t) (r .sound .graph) w hw (getD outers w 0 - 1) (sym (o .at w hw) ∙ z)
+          outer-next (caseOf f trailer) (r .sound .graph) w hw (getD outers w 0 - 1) (sym (o .at w hw) ∙ z)
 
-      pub next-low : getD outers w 0 - 1 < t .loops
+      pub next-low : getD outers w 0 - 1 < trailer .loops
       next-low = omega (arith, next-loop .0)
 
       pub next-header :
-          (l : Loop) → l ≡ loopAt f t (getD outers w 0 - 1)
-          → (l .first < t .nodes) × ((getD counts (l .first) 0 ≡ entries (caseOf f t) (factAt f p)) × (getD counts (l .first) 0 ≤ mostCount))
+          (l : Loop) → l ≡ loopAt f trailer (getD outers w 0 - 1)
+          → (l .first < trailer .nodes) × ((getD counts (l .first) 0 ≡ entries (caseOf f trailer) (factAt f p)) × (getD counts (l .first) 0 ≤ mostCount))
       unfolding caseOf
       next-header l el =
           let g = r .sound .graph in
           let s = g .fits (getD outers w 0 - 1) next-low in
-          let h : loopAt f t (getD outers w 0 - 1) .first < t .nodes = omega (arith, s .0, s .1) in
-          let q = r .counted .at (loopAt f t (getD outers w 0 - 1) .first) h in
-          rw el (h, (q ∙ sym (next-loop .1) ∙ sym of-loop, omega (arith, q, next-loop .1, outer-low (caseOf f t) g w hw)))
+          let h : loopAt f trailer (getD outers w 0 - 1) .first < trailer .nodes = omega (arith, s .0, s .1) in
+          let q = r .counted .at (loopAt f trailer (getD outers w 0 - 1) .first) h in
+          rw el (h, (q ∙ sym (next-loop .1) ∙ sym of-loop, omega (arith, q, next-loop .1, outer-low (caseOf f trailer) g w hw)))

@@ -23,49 +23,49 @@ use Rattle.charge.specs.declared.heads.Head.{Head}
 
 -- a fact's scope lies in the graph
 pub scope-fits :
-    (f : List ℕ) (t : Trailer) (c : List ℕ) (w : ℕ) (s : Loop) → Ready f t c → (w ≢ none → w < t .loops) → s ≡ rangeOf (t .nodes) (loopAt f t) w
-    → (s .first ≤ s .last) × (s .last < t .nodes)
+    (f : List ℕ) (trailer : Trailer) (c : List ℕ) (w : ℕ) (s : Loop) → Ready f trailer c → (w ≢ none → w < trailer .loops) → s ≡ rangeOf (trailer .nodes) (loopAt f trailer) w
+    → (s .first ≤ s .last) × (s .last < trailer .nodes)
 unfolding rangeOf caseOf
-scope-fits f t c w s r h e =
+scope-fits f trailer c w s r h e =
     rw e
     (elim (ℕ-discrete w none) [
       | yes q ↦ rw (eq-eqb w none q) (omega arith, omega (arith, r .laid .nodes-low))
       | no q ↦ rw (ne-eqb w none q) (r .sound .graph .fits w (h q) .0, r .sound .graph .fits w (h q) .1)
     ])
 
-module _ (f : List ℕ) (t : Trailer) (p : ℕ) where
+module _ (f : List ℕ) (trailer : Trailer) (p : ℕ) where
   -- rule 12: it is one of the loops or the whole graph
-  pub scope-low : (w : ℕ) → w ≡ factAt f p .scope → SoundHead (caseOf f t) (factAt f p) → w ≢ none → w < t .loops
+  pub scope-low : (w : ℕ) → w ≡ factAt f p .scope → SoundHead (caseOf f trailer) (factAt f p) → w ≢ none → w < trailer .loops
   unfolding caseOf
   scope-low w ew h = rw ew (h .scope)
 
   -- the head of a fact that ends before the trailer
-  pub head-room : factEnd f t p ≤ endAt f → headEnd p ≤ length f
+  pub head-room : factEnd f trailer p ≤ endAt f → headEnd p ≤ length f
   unfolding factEnd
   head-room h = omega arith
 
   -- its rows follow
-  pub next-is : (w : ℕ) (s : Loop) → w ≡ factAt f p .scope → s ≡ rangeOf (t .nodes) (loopAt f t) w → rowPlace p (size s) ≡ factEnd f t p
+  pub next-is : (w : ℕ) (s : Loop) → w ≡ factAt f p .scope → s ≡ rangeOf (trailer .nodes) (loopAt f trailer) w → rowPlace p (size s) ≡ factEnd f trailer p
   unfolding factEnd
   next-is w s ew es = rw (← ew, ← es) refl
 
   pub head-is :
-      (w b l x : ℕ) (s : Loop) → w ≡ factAt f p .scope → b ≡ factAt f p .block → l ≡ factAt f p .limit → s ≡ rangeOf (t .nodes) (loopAt f t) w → x ≡ factEnd f t p
-      → _≡_ {A = Head} (record { scope = w; block = b; limit = l; range = s; next = x }) (headOf f t p)
+      (w b l x : ℕ) (s : Loop) → w ≡ factAt f p .scope → b ≡ factAt f p .block → l ≡ factAt f p .limit → s ≡ rangeOf (trailer .nodes) (loopAt f trailer) w → x ≡ factEnd f trailer p
+      → _≡_ {A = Head} (record { scope = w; block = b; limit = l; range = s; next = x }) (headOf f trailer p)
   unfolding headOf
   head-is w b l x s ew eb el es ex = rw (es, ew, eb, el, ex) refl
 
-  module _ (h : Head) (eh : h ≡ headOf f t p) where
+  module _ (h : Head) (eh : h ≡ headOf f trailer p) where
     pub cost-is :
-        (E N x : ℕ) → E ≡ entries (caseOf f t) (factAt f p) → N ≡ counts (caseOf f t) (fetchesIn (caseOf f t) (h .range) (h .block))
-        → x ≡ boundOf (t .policy) (t .ways) (h .limit) E N
-        → _≡_ {A = Cost} (record { block = h .block; limit = h .limit; entered = E; bound = x; next = h .next }) (costOf f t p)
+        (E N x : ℕ) → E ≡ entries (caseOf f trailer) (factAt f p) → N ≡ counts (caseOf f trailer) (fetchesIn (caseOf f trailer) (h .range) (h .block))
+        → x ≡ boundOf (trailer .policy) (trailer .ways) (h .limit) E N
+        → _≡_ {A = Cost} (record { block = h .block; limit = h .limit; entered = E; bound = x; next = h .next }) (costOf f trailer p)
     unfolding headOf costOf factBound entered covers caseOf
     cost-is E N x eE eN ex = rw (ex, eN, eE, eh) refl
 
     pub lowered-is :
-        (old new : List ℕ) → Lowered (caseOf f t) (fetchesIn (caseOf f t) (h .range) (h .block)) (h .limit) old new
-        → Lowered (caseOf f t) (covers (caseOf f t) (factAt f p)) (factAt f p .limit) old new
+        (old new : List ℕ) → Lowered (caseOf f trailer) (fetchesIn (caseOf f trailer) (h .range) (h .block)) (h .limit) old new
+        → Lowered (caseOf f trailer) (covers (caseOf f trailer) (factAt f p)) (factAt f p .limit) old new
     unfolding headOf covers caseOf
     lowered-is old new low =
-        subst (λ (k : Head). Lowered (caseOf f t) (fetchesIn (caseOf f t) (k .range) (k .block)) (k .limit) old new) eh low
+        subst (λ (k : Head). Lowered (caseOf f trailer) (fetchesIn (caseOf f trailer) (k .range) (k .block)) (k .limit) old new) eh low

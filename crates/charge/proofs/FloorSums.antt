@@ -26,50 +26,50 @@ pub record Flooring (e : Case) (q a m x j : ℕ) : Type 0 where
   pub sum : m ≡ M e j q
   pub small : m ≤ largestVisits + largestEntered * j
 
-module _ (f : List ℕ) (t : Trailer) (charged entered fetched spent : List ℕ) (s : Summed f t charged entered fetched spent) (q : ℕ) (hq : q < Sizes.sets) where
-  sum-A : getD charged q 0 + getD spent (placeOf q Sizes.noLimit) 0 ≡ A (caseOf f t) q
+module _ (f : List ℕ) (trailer : Trailer) (charged entered fetched spent : List ℕ) (s : Summed f trailer charged entered fetched spent) (q : ℕ) (hq : q < Sizes.sets) where
+  sum-A : getD charged q 0 + getD spent (placeOf q Sizes.noLimit) 0 ≡ A (caseOf f trailer) q
   unfolding caseOf
-  sum-A = A-is (caseOf f t) (fact-head f t (s .laid) (s .sound)) (s .laid .ways-high) q charged entered fetched spent (s .facts) (s .nodes) hq
+  sum-A = A-is (caseOf f trailer) (fact-head f trailer (s .laid) (s .sound)) (s .laid .ways-high) q charged entered fetched spent (s .facts) (s .nodes) hq
 
   pub A-small : getD charged q 0 + getD spent (placeOf q Sizes.noLimit) 0 ≤ largestA
   A-small =
       omega (
         arith,
-        charged-small f t (s .laid) (s .sound) charged entered (s .facts) q hq,
-        spent-small f t (s .laid) (s .sound) fetched spent (s .nodes) (placeOf q Sizes.noLimit) (omega arith),
+        charged-small f trailer (s .laid) (s .sound) charged entered (s .facts) q hq,
+        spent-small f trailer (s .laid) (s .sound) fetched spent (s .nodes) (placeOf q Sizes.noLimit) (omega arith),
       )
 
   pub floor-set :
-      (r : ℕ) → partsOf (t .policy) .floors ≡ true → r ≡ lowestTo (floorAt (caseOf f t) q) (getD charged q 0 + getD spent (placeOf q Sizes.noLimit) 0) (t .ways)
-      → r ≡ setBound (caseOf f t) q
+      (r : ℕ) → partsOf (trailer .policy) .floors ≡ true → r ≡ lowestTo (floorAt (caseOf f trailer) q) (getD charged q 0 + getD spent (placeOf q Sizes.noLimit) 0) (trailer .ways)
+      → r ≡ setBound (caseOf f trailer) q
   unfolding caseOf setBound
-  floor-set r h e = rw h (e ∙ ap (λ x. lowestTo (floorAt (caseOf f t) q) x (t .ways)) sum-A)
+  floor-set r h e = rw h (e ∙ ap (λ x. lowestTo (floorAt (caseOf f trailer) q) x (trailer .ways)) sum-A)
 
-  pub other-set : partsOf (t .policy) .floors ≡ false → getD charged q 0 + getD spent (placeOf q Sizes.noLimit) 0 ≡ setBound (caseOf f t) q
+  pub other-set : partsOf (trailer .policy) .floors ≡ false → getD charged q 0 + getD spent (placeOf q Sizes.noLimit) 0 ≡ setBound (caseOf f trailer) q
   unfolding caseOf setBound
   other-set h = rw h sum-A
 
-  pub flooring-start : (a : ℕ) → Flooring (caseOf f t) q a (getD fetched q 0) a 0
+  pub flooring-start : (a : ℕ) → Flooring (caseOf f trailer) q a (getD fetched q 0) a 0
   unfolding caseOf
   flooring-start a =
       record {
-        lowest = lowest-start (floorAt (caseOf f t) q) a (t .ways);
-        sum = M-start (caseOf f t) (fact-head f t (s .laid) (s .sound)) (s .laid .ways-high) q charged entered fetched spent (s .facts) (s .nodes) hq;
-        small = omega (arith, fetched-small f t (s .laid) (s .sound) fetched spent (s .nodes) q hq);
+        lowest = lowest-start (floorAt (caseOf f trailer) q) a (trailer .ways);
+        sum = M-start (caseOf f trailer) (fact-head f trailer (s .laid) (s .sound)) (s .laid .ways-high) q charged entered fetched spent (s .facts) (s .nodes) hq;
+        small = omega (arith, fetched-small f trailer (s .laid) (s .sound) fetched spent (s .nodes) q hq);
       }
 
-  module _ (a m x j : ℕ) (w : Flooring (caseOf f t) q a m x j) (h : j < t .ways) where
+  module _ (a m x j : ℕ) (w : Flooring (caseOf f trailer) q a m x j) (h : j < trailer .ways) where
     abbrev in-E : ℕ
     in-E = getD entered (placeOf q (j + 1)) 0
 
     abbrev out : ℕ
     out = getD spent (placeOf q (j + 1)) 0
 
-    next-M : m + in-E ≡ M (caseOf f t) (suc j) q + out
+    next-M : m + in-E ≡ M (caseOf f trailer) (suc j) q + out
     unfolding caseOf
     next-M =
         rw (add-one, w .sum)
-        (M-more (caseOf f t) (fact-head f t (s .laid) (s .sound)) (s .laid .ways-high) q charged entered fetched spent (s .facts) (s .nodes) hq j (omega (arith, s .laid .ways-high)))
+        (M-more (caseOf f trailer) (fact-head f trailer (s .laid) (s .sound)) (s .laid .ways-high) q charged entered fetched spent (s .facts) (s .nodes) hq j (omega (arith, s .laid .ways-high)))
 
     -- nothing is taken that is not there
     pub out-fits : out ≤ m + in-E
@@ -80,19 +80,19 @@ module _ (f : List ℕ) (t : Trailer) (charged entered fetched spent : List ℕ)
         omega (
           arith,
           w .small,
-          entered-small f t (s .laid) (s .sound) charged entered (s .facts) (placeOf q (j + 1)) (omega (arith, s .laid .ways-high)),
+          entered-small f trailer (s .laid) (s .sound) charged entered (s .facts) (placeOf q (j + 1)) (omega (arith, s .laid .ways-high)),
         )
 
     pub next-small : m + in-E - out ≤ largestM
     next-small = omega (arith, in-small, s .laid .ways-high)
 
     pub flooring-more :
-        (n y r : ℕ) → n ≡ m + in-E - out → y ≡ floorOf (t .ways) (j + 1) n → r ≡ min x y → Flooring (caseOf f t) q a n r (j + 1)
+        (n y r : ℕ) → n ≡ m + in-E - out → y ≡ floorOf (trailer .ways) (j + 1) n → r ≡ min x y → Flooring (caseOf f trailer) q a n r (j + 1)
     unfolding caseOf floorAt
     flooring-more n y r en ey er =
-        let eM : n ≡ M (caseOf f t) (suc j) q = omega (arith, next-M, en) in
+        let eM : n ≡ M (caseOf f trailer) (suc j) q = omega (arith, next-M, en) in
         record {
-          lowest = lowest-more (floorAt (caseOf f t) q) a (t .ways) x j y r (w .lowest) h (ey ∙ rw (add-one, eM) refl) er;
+          lowest = lowest-more (floorAt (caseOf f trailer) q) a (trailer .ways) x j y r (w .lowest) h (ey ∙ rw (add-one, eM) refl) er;
           sum = rw add-one eM;
           small = omega (arith, in-small, en);
         }

@@ -94,14 +94,14 @@ module _ (e : Case) (s : Loop) (b : ℕ) where
             sum = rw g (omega (arith, r, d, skip-sum v));
             small = omega (arith, w .small, g, m);
             done =
-                λ u r t.
+                λ u r trailer.
                 elim (ℕ-discrete u v) [
                   | yes i ↦ rw (i, f) (getD-set-same new v z 0 hv ∙ ez ∙ rw (w .left v (omega arith)) refl)
                   | no i ↦
                       getD-set-other new v u z 0 i
                       ∙ elim (decLt u v) [
                         | yes j ↦ w .left u (omega arith) ∙ skip v u (omega (arith, w .within)) (omega (arith, g)) j
-                        | no j ↦ w .done u (omega arith) t
+                        | no j ↦ w .done u (omega arith) trailer
                       ]
                 ];
             left = λ u r. getD-set-other new v u z 0 (omega (arith, g, m)) ∙ w .left u (omega (arith, g, m));

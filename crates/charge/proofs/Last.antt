@@ -50,9 +50,9 @@ module _ (p : ℕ → Bool) where
   -- v passes, and none after it
   pub last-found : (n v : ℕ) → v < n → p v ≡ true → ((u : ℕ) → v < u → u < n → p u ≡ false) → lastOf p n ≡ suc v
   unfolding lastOf
-  last-found zero v l t h = absurd (omega arith)
-  last-found (suc n) v l t h =
+  last-found zero v l trailer h = absurd (omega arith)
+  last-found (suc n) v l trailer h =
       elim (ℕ-discrete v n) [
-        | yes z ↦ let q : p n ≡ true = sym (ap p z) ∙ t in rw q (omega arith)
-        | no z ↦ rw (h n (omega arith) (omega arith)) (last-found n v (omega arith) t (λ u a b. h u a (omega arith)))
+        | yes z ↦ let q : p n ≡ true = sym (ap p z) ∙ trailer in rw q (omega arith)
+        | no z ↦ rw (h n (omega arith) (omega arith)) (last-found n v (omega arith) trailer (λ u a b. h u a (omega arith)))
       ]

@@ -28,47 +28,47 @@ bound-low p k l E N a h =
     let z : E ≤ a = omega arith in
     each (λ P. P .bound k l E N ≤ a) z (cond-low (ltb l 2) z (omega (arith, div-le-self (N - E) (g k l)))) (cond-low (ltb l 2) z (omega arith)) p
 
-module _ (f : List ℕ) (t : Trailer) (laid : Laid f t) (sound : Sound (caseOf f t)) where
+module _ (f : List ℕ) (trailer : Trailer) (laid : Laid f trailer) (sound : Sound (caseOf f trailer)) where
   -- "block b lives in set b mod S"
-  pub set-low : (b : ℕ) → b % t .sets < Sizes.sets
-  set-low b = let h : 0 < t .sets = omega (arith, laid .sets-low) in omega (arith, mod-lt b h, laid .sets-high)
+  pub set-low : (b : ℕ) → b % trailer .sets < Sizes.sets
+  set-low b = let h : 0 < trailer .sets = omega (arith, laid .sets-low) in omega (arith, mod-lt b h, laid .sets-high)
 
-  module _ (i : ℕ) (h : i < t .facts) where
-    pub fact-head : SoundHead (caseOf f t) (caseOf f t .fact i)
+  module _ (i : ℕ) (h : i < trailer .facts) where
+    pub fact-head : SoundHead (caseOf f trailer) (caseOf f trailer .fact i)
     unfolding caseOf
     fact-head = sound .facts i h .head
 
-    entered-low : entered (caseOf f t) (caseOf f t .fact i) ≤ mostCount
+    entered-low : entered (caseOf f trailer) (caseOf f trailer .fact i) ≤ mostCount
     unfolding entered
-    entered-low = entries-low (caseOf f t) (sound .graph) (caseOf f t .fact i) (fact-head .scope)
+    entered-low = entries-low (caseOf f trailer) (sound .graph) (caseOf f trailer .fact i) (fact-head .scope)
 
-    pub fact-small : (factBound (caseOf f t) (caseOf f t .fact i) ≤ largestBound) × (entered (caseOf f t) (caseOf f t .fact i) ≤ mostCount)
+    pub fact-small : (factBound (caseOf f trailer) (caseOf f trailer .fact i) ≤ largestBound) × (entered (caseOf f trailer) (caseOf f trailer .fact i) ≤ mostCount)
     unfolding factBound counts caseOf
     fact-small = (
-      bound-low (t .policy) (t .ways) (caseOf f t .fact i .limit) (entered (caseOf f t) (caseOf f t .fact i)) _ largestBound
+      bound-low (trailer .policy) (trailer .ways) (caseOf f trailer .fact i .limit) (entered (caseOf f trailer) (caseOf f trailer .fact i)) _ largestBound
           (omega (
             arith,
             entered-low,
-            sum-low (λ v. cond (covers (caseOf f t) (caseOf f t .fact i) v) (count (caseOf f t) v) 0) mostCount (t .nodes)
-                (λ v q. cond-low (covers (caseOf f t) (caseOf f t .fact i) v) (sound .graph .counts v q) (omega arith)),
+            sum-low (λ v. cond (covers (caseOf f trailer) (caseOf f trailer .fact i) v) (count (caseOf f trailer) v) 0) mostCount (trailer .nodes)
+                (λ v q. cond-low (covers (caseOf f trailer) (caseOf f trailer .fact i) v) (sound .graph .counts v q) (omega arith)),
             laid .nodes-high,
           )),
       entered-low,
     )
 
-  pub weight-small : (v : ℕ) → v < t .nodes → weight (caseOf f t) v ≤ mostCount
+  pub weight-small : (v : ℕ) → v < trailer .nodes → weight (caseOf f trailer) v ≤ mostCount
   unfolding weight caseOf
   weight-small v h = cond-low (not (eqb (nodeAt f v) none)) (sound .graph .counts v h) (omega arith)
 
-  module _ (charged entries : List ℕ) (w : FactsAdded (caseOf f t) (t .facts) charged entries) where
+  module _ (charged entries : List ℕ) (w : FactsAdded (caseOf f trailer) (trailer .facts) charged entries) where
     pub charged-small : (j : ℕ) → j < Sizes.sets → getD charged j 0 ≤ largestCharged
     charged-small j l = omega (arith, sets-low _ _ _ _ _ _ _ w largestBound mostCount fact-small j l, laid .facts-high)
 
     pub entered-small : (j : ℕ) → j < Sizes.setsByLimits → getD entries j 0 ≤ largestEntered
     entered-small j l = omega (arith, limits-low _ _ _ _ _ _ _ w largestBound mostCount fact-small j l, laid .facts-high)
 
-  module _ (fetched spent : List ℕ) (w : NodesAdded (caseOf f t) (t .nodes) fetched spent) where
-    both : (v : ℕ) → v < t .nodes → (weight (caseOf f t) v ≤ mostCount) × (weight (caseOf f t) v ≤ mostCount)
+  module _ (fetched spent : List ℕ) (w : NodesAdded (caseOf f trailer) (trailer .nodes) fetched spent) where
+    both : (v : ℕ) → v < trailer .nodes → (weight (caseOf f trailer) v ≤ mostCount) × (weight (caseOf f trailer) v ≤ mostCount)
     both v h = (weight-small v h, weight-small v h)
 
     pub fetched-small : (j : ℕ) → j < Sizes.sets → getD fetched j 0 ≤ largestVisits

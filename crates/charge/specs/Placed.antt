@@ -5,5 +5,5 @@ use Rattle.paper.specs.declared.Trailer.{Trailer}
 use Rattle.paper.specs.Files.{endAt, factEnd, factPlace}
 
 -- Each fact's head and rows lie before the trailer.
-pub record Placed (f : List ℕ) (t : Trailer) : Type 0 where
-  pub ends : (i : ℕ) → i < t .facts → factEnd f t (factPlace f t i) ≤ endAt f
+pub record Placed (f : List ℕ) (trailer : Trailer) : Type 0 where
+  pub ends : (i : ℕ) → i < trailer .facts → factEnd f trailer (factPlace f trailer i) ≤ endAt f

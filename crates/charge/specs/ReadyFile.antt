@@ -8,8 +8,8 @@ use Rattle.paper.specs.Known.{Laid}
 use Rattle.layout.specs.Counted.{Counted}
 use Rattle.charge.specs.Placed.{Placed}
 
-pub record Ready (f : List ℕ) (t : Trailer) (counts : List ℕ) : Type 0 where
-  pub laid : Laid f t
-  pub sound : Sound (caseOf f t)
-  pub placed : Placed f t
-  pub counted : Counted f t counts
+pub record Ready (f : List ℕ) (trailer : Trailer) (counts : List ℕ) : Type 0 where
+  pub laid : Laid f trailer
+  pub sound : Sound (caseOf f trailer)
+  pub placed : Placed f trailer
+  pub counted : Counted f trailer counts

@@ -7,8 +7,8 @@ use Rattle.paper.proofs.Meaning.{Sound}
 use Rattle.paper.specs.Known.{Laid}
 use Rattle.charge.specs.Tables.{FactsAdded, NodesAdded}
 
-pub record Summed (f : List ℕ) (t : Trailer) (charged entered fetched spent : List ℕ) : Type 0 where
-  pub laid : Laid f t
-  pub sound : Sound (caseOf f t)
-  pub facts : FactsAdded (caseOf f t) (t .facts) charged entered
-  pub nodes : NodesAdded (caseOf f t) (t .nodes) fetched spent
+pub record Summed (f : List ℕ) (trailer : Trailer) (charged entered fetched spent : List ℕ) : Type 0 where
+  pub laid : Laid f trailer
+  pub sound : Sound (caseOf f trailer)
+  pub facts : FactsAdded (caseOf f trailer) (trailer .facts) charged entered
+  pub nodes : NodesAdded (caseOf f trailer) (trailer .nodes) fetched spent

@@ -21,9 +21,9 @@ use Rattle.charge.specs.Sizes as Sizes
 pub record Tallied (key amount : ℕ → ℕ) (n : ℕ) (l : List ℕ) : Type 0 where
   pub is : (j : ℕ) → j < length l → getD l j 0 ≡ sumTo (λ i. cond (eqb (key i) j) (amount i) 0) n
 
--- x is added at place k
+-- x is added at place i
 abbrev pub plus : List ℕ → ℕ → ℕ → List ℕ
-plus l k x = set l k (getD l k 0 + x)
+plus l i x = set l i (getD l i 0 + x)
 
 -- limit l's place among those of set q
 abbrev pub placeOf : ℕ → ℕ → ℕ
@@ -75,7 +75,7 @@ module _ (e : Case) where
     pub is : (i : ℕ) → i < listLength → getD new i 0 ≡ partAt e T Q I i
     pub later : drop listLength new ≡ drop listLength old
 
-module _ (f : List ℕ) (t : Trailer) (p : ℕ) where
+module _ (f : List ℕ) (trailer : Trailer) (p : ℕ) where
   -- what is read of the fact at p
   unfoldable pub headOf : Head
   headOf =
@@ -83,8 +83,8 @@ module _ (f : List ℕ) (t : Trailer) (p : ℕ) where
         scope = u16At f p;
         block = u16At f (p + 2);
         limit = u16At f (p + 4);
-        range = rangeOf (t .nodes) (loopAt f t) (u16At f p);
-        next = factEnd f t p;
+        range = rangeOf (trailer .nodes) (loopAt f trailer) (u16At f p);
+        next = factEnd f trailer p;
       }
 
   -- what it costs, and where it ends
@@ -93,7 +93,7 @@ module _ (f : List ℕ) (t : Trailer) (p : ℕ) where
       record {
         block = u16At f (p + 2);
         limit = u16At f (p + 4);
-        entered = entered (caseOf f t) (factAt f p);
-        bound = factBound (caseOf f t) (factAt f p);
-        next = factEnd f t p;
+        entered = entered (caseOf f trailer) (factAt f p);
+        bound = factBound (caseOf f trailer) (factAt f p);
+        next = factEnd f trailer p;
       }

@@ -19,12 +19,12 @@ use crate::sizes::NODES;
 use paper::Trailer;
 
 // Node v, not before the range, is in it and fetches b.
-fn fetches_to(file: &[u8], t: Trailer, last: u16, b: u16, v: u16) -> bool
-    requires { ⌜ Laid (now file) t ⌝ }
-    requires { ⌜ v < t .nodes ⌝ }
+fn fetches_to(file: &[u8], trailer: Trailer, last: u16, b: u16, v: u16) -> bool
+    requires { ⌜ Laid (now file) trailer ⌝ }
+    requires { ⌜ v < trailer .nodes ⌝ }
     ensures { λ r. ⌜ r ≡ (leb v last && eqb (Files.nodeAt (now (file .entry)) v) b) ⌝ }
 {
-    (v <= last) & (layout::node_at(file, t, v) == b)
+    (v <= last) & (layout::node_at(file, trailer, v) == b)
 }
 
 fn lower_if(hit: bool, l: u16, old: u16) -> u16
@@ -35,15 +35,15 @@ fn lower_if(hit: bool, l: u16, old: u16) -> u16
 }
 
 // The nodes by their blocks' buckets: place h holds the last node of bucket h, and after the buckets place v the one before v in its bucket, each plus 1, and 0 where there is none.
-pub fn chain_nodes(file: &[u8], t: Trailer, chain: &mut [u16; CHAINED])
-    requires { ⌜ Laid (now file) t ⌝ }
-    requires { ⌜ Chained.Chained (Files.caseOf (now file) t) 0 (now chain) ⌝ }
-    ensures { λ r. ⌜ Chained.Chained (Files.caseOf (now (file .entry)) t) (t .nodes) (now (chain .exit)) ⌝ }
+pub fn chain_nodes(file: &[u8], trailer: Trailer, chain: &mut [u16; CHAINED])
+    requires { ⌜ Laid (now file) trailer ⌝ }
+    requires { ⌜ Chained.Chained (Files.caseOf (now file) trailer) 0 (now chain) ⌝ }
+    ensures { λ r. ⌜ Chained.Chained (Files.caseOf (now (file .entry)) trailer) (trailer .nodes) (now (chain .exit)) ⌝ }
 {
-    let n = t.nodes;
+    let n = trailer.nodes;
     let mut v: u16 = 0;
     while v < n {
-        let h = (layout::node_at(file, t, v) % BUCKETS) as usize;
+        let h = (layout::node_at(file, trailer, v) % BUCKETS) as usize;
         chain[BUCKETS as usize + v as usize] = chain[h];
         chain[h] = v + 1;
         v += 1;
@@ -53,25 +53,25 @@ pub fn chain_nodes(file: &[u8], t: Trailer, chain: &mut [u16; CHAINED])
 // N: "the sum of counts of its nodes that fetch b"; and those nodes are covered by a fact of its limit. Only nodes of b's bucket are looked at.
 pub fn cover_nodes(
     file: &[u8],
-    t: Trailer,
+    trailer: Trailer,
     counts: &[u32],
     chain: &[u16; CHAINED],
     h: Head,
     cover: &mut [u16; NODES],
 ) -> u64
-    requires { ⌜ Ready (now file) t (now counts) ⌝ }
-    requires { ⌜ Chained.Chained (Files.caseOf (now file) t) (t .nodes) (now chain) ⌝ }
-    requires { ⌜ Chained.Limits (Files.caseOf (now file) t) (now cover) ⌝ }
-    ensures { λ r. ⌜ r ≡ Bounds.counts (Files.caseOf (now (file .entry)) t) (Bounds.fetchesIn (Files.caseOf (now (file .entry)) t) (h .range) (h .block)) ⌝ }
+    requires { ⌜ Ready (now file) trailer (now counts) ⌝ }
+    requires { ⌜ Chained.Chained (Files.caseOf (now file) trailer) (trailer .nodes) (now chain) ⌝ }
+    requires { ⌜ Chained.Limits (Files.caseOf (now file) trailer) (now cover) ⌝ }
+    ensures { λ r. ⌜ r ≡ Bounds.counts (Files.caseOf (now (file .entry)) trailer) (Bounds.fetchesIn (Files.caseOf (now (file .entry)) trailer) (h .range) (h .block)) ⌝ }
     ensures { λ r. ⌜ r ≤ Largest.largestVisits ⌝ }
-    ensures { λ r. ⌜ Chained.Lowered (Files.caseOf (now (file .entry)) t) (Bounds.fetchesIn (Files.caseOf (now (file .entry)) t) (h .range) (h .block)) (h .limit) (now (cover .entry)) (now (cover .exit)) ⌝ }
+    ensures { λ r. ⌜ Chained.Lowered (Files.caseOf (now (file .entry)) trailer) (Bounds.fetchesIn (Files.caseOf (now (file .entry)) trailer) (h .range) (h .block)) (h .limit) (now (cover .entry)) (now (cover .exit)) ⌝ }
 {
     let mut n: u64 = 0;
     let mut c: u16 = chain[(h.block % BUCKETS) as usize];
     while h.range.first < c {
         let v = c - 1;
         let at = v as usize;
-        let hit = fetches_to(file, t, h.range.last, h.block, v);
+        let hit = fetches_to(file, trailer, h.range.last, h.block, v);
         n += amounts::count_if(hit, counts[at]);
         cover[at] = lower_if(hit, h.limit, cover[at]);
         c = chain[BUCKETS as usize + at];

@@ -32,30 +32,30 @@ pub struct Cost {
 // The fact at p: what it costs; and its nodes are covered.
 fn charge_fact(
     file: &[u8],
-    t: Trailer,
+    trailer: Trailer,
     counts: &[u32],
     outers: &[u16; LOOPS],
     chain: &[u16; CHAINED],
     p: usize,
     cover: &mut [u16; NODES],
 ) -> Cost
-    requires { ⌜ Ready (now file) t (now counts) ⌝ }
-    requires { ⌜ NextOut.Outers (Files.caseOf (now file) t) (t .loops) (now outers) ⌝ }
-    requires { ⌜ Chained.Chained (Files.caseOf (now file) t) (t .nodes) (now chain) ⌝ }
-    requires { ⌜ SoundHead (Files.caseOf (now file) t) (Files.factAt (now file) p) ⌝ }
-    requires { ⌜ Files.factEnd (now file) t p ≤ Files.endAt (now file) ⌝ }
-    requires { ⌜ Chained.Limits (Files.caseOf (now file) t) (now cover) ⌝ }
-    ensures { λ r. ⌜ r ≡ Tables.costOf (now (file .entry)) t p ⌝ }
-    ensures { λ r. ⌜ Chained.Lowered (Files.caseOf (now (file .entry)) t) (Bounds.covers (Files.caseOf (now (file .entry)) t) (Files.factAt (now (file .entry)) p)) (Files.factAt (now (file .entry)) p .limit) (now (cover .entry)) (now (cover .exit)) ⌝ }
+    requires { ⌜ Ready (now file) trailer (now counts) ⌝ }
+    requires { ⌜ NextOut.Outers (Files.caseOf (now file) trailer) (trailer .loops) (now outers) ⌝ }
+    requires { ⌜ Chained.Chained (Files.caseOf (now file) trailer) (trailer .nodes) (now chain) ⌝ }
+    requires { ⌜ SoundHead (Files.caseOf (now file) trailer) (Files.factAt (now file) p) ⌝ }
+    requires { ⌜ Files.factEnd (now file) trailer p ≤ Files.endAt (now file) ⌝ }
+    requires { ⌜ Chained.Limits (Files.caseOf (now file) trailer) (now cover) ⌝ }
+    ensures { λ r. ⌜ r ≡ Tables.costOf (now (file .entry)) trailer p ⌝ }
+    ensures { λ r. ⌜ Chained.Lowered (Files.caseOf (now (file .entry)) trailer) (Bounds.covers (Files.caseOf (now (file .entry)) trailer) (Files.factAt (now (file .entry)) p)) (Files.factAt (now (file .entry)) p .limit) (now (cover .entry)) (now (cover .exit)) ⌝ }
 {
-    let h = heads::head_at(file, t, counts, p);
-    let e = outers::entries_of(file, t, counts, outers, p, h.scope);
-    let n = chains::cover_nodes(file, t, counts, chain, h, cover);
+    let h = heads::head_at(file, trailer, counts, p);
+    let e = outers::entries_of(file, trailer, counts, outers, p, h.scope);
+    let n = chains::cover_nodes(file, trailer, counts, chain, h, cover);
     Cost {
         block: h.block,
         limit: h.limit,
         entered: e,
-        bound: formulas::bound_of(t.policy, t.ways as u64, h.limit as u64, e, n),
+        bound: formulas::bound_of(trailer.policy, trailer.ways as u64, h.limit as u64, e, n),
         next: h.next,
     }
 }
@@ -63,7 +63,7 @@ fn charge_fact(
 // Each fact: its bound, and its sums by set, and by set and limit.
 fn charge_each(
     file: &[u8],
-    t: Trailer,
+    trailer: Trailer,
     counts: &[u32],
     outers: &[u16; LOOPS],
     chain: &[u16; CHAINED],
@@ -72,25 +72,25 @@ fn charge_each(
     entered: &mut [u64; SETS_BY_LIMITS],
     numbers: &mut [u64],
 )
-    requires { ⌜ Ready (now file) t (now counts) ⌝ }
-    requires { ⌜ NextOut.Outers (Files.caseOf (now file) t) (t .loops) (now outers) ⌝ }
-    requires { ⌜ Chained.Chained (Files.caseOf (now file) t) (t .nodes) (now chain) ⌝ }
-    requires { ⌜ Chained.Covered (Files.caseOf (now file) t) 0 (now cover) ⌝ }
-    requires { ⌜ Tables.FactsAdded (Files.caseOf (now file) t) 0 (now charged) (now entered) ⌝ }
-    requires { ⌜ Tables.Part (Files.caseOf (now file) t) 0 0 0 (now numbers) (now numbers) ⌝ }
-    ensures { λ r. ⌜ Chained.Covered (Files.caseOf (now (file .entry)) t) (t .facts) (now (cover .exit)) ⌝ }
-    ensures { λ r. ⌜ Tables.FactsAdded (Files.caseOf (now (file .entry)) t) (t .facts) (now (charged .exit)) (now (entered .exit)) ⌝ }
-    ensures { λ r. ⌜ Tables.Part (Files.caseOf (now (file .entry)) t) 0 0 (t .facts) (now (numbers .entry)) (now (numbers .exit)) ⌝ }
+    requires { ⌜ Ready (now file) trailer (now counts) ⌝ }
+    requires { ⌜ NextOut.Outers (Files.caseOf (now file) trailer) (trailer .loops) (now outers) ⌝ }
+    requires { ⌜ Chained.Chained (Files.caseOf (now file) trailer) (trailer .nodes) (now chain) ⌝ }
+    requires { ⌜ Chained.Covered (Files.caseOf (now file) trailer) 0 (now cover) ⌝ }
+    requires { ⌜ Tables.FactsAdded (Files.caseOf (now file) trailer) 0 (now charged) (now entered) ⌝ }
+    requires { ⌜ Tables.Part (Files.caseOf (now file) trailer) 0 0 0 (now numbers) (now numbers) ⌝ }
+    ensures { λ r. ⌜ Chained.Covered (Files.caseOf (now (file .entry)) trailer) (trailer .facts) (now (cover .exit)) ⌝ }
+    ensures { λ r. ⌜ Tables.FactsAdded (Files.caseOf (now (file .entry)) trailer) (trailer .facts) (now (charged .exit)) (now (entered .exit)) ⌝ }
+    ensures { λ r. ⌜ Tables.Part (Files.caseOf (now (file .entry)) trailer) 0 0 (trailer .facts) (now (numbers .entry)) (now (numbers .exit)) ⌝ }
 {
-    let n = t.facts as usize;
-    let mut p = layout::facts_at(t);
+    let n = trailer.facts as usize;
+    let mut p = layout::facts_at(trailer);
     let mut i: usize = 0;
     while i < n {
-        let c = charge_fact(file, t, counts, outers, chain, p, cover);
+        let c = charge_fact(file, trailer, counts, outers, chain, p, cover);
         amounts::add(
             charged,
             entered,
-            t.sets,
+            trailer.sets,
             c.block,
             c.limit,
             c.bound,
@@ -105,28 +105,28 @@ fn charge_each(
 // All facts, with the next loops out and the nodes by buckets made for them.
 pub fn charge_facts(
     file: &[u8],
-    t: Trailer,
+    trailer: Trailer,
     counts: &[u32],
     cover: &mut [u16; NODES],
     charged: &mut [u64; SETS],
     entered: &mut [u64; SETS_BY_LIMITS],
     numbers: &mut [u64],
 )
-    requires { ⌜ Ready (now file) t (now counts) ⌝ }
-    requires { ⌜ Chained.Covered (Files.caseOf (now file) t) 0 (now cover) ⌝ }
-    requires { ⌜ Tables.FactsAdded (Files.caseOf (now file) t) 0 (now charged) (now entered) ⌝ }
-    requires { ⌜ Tables.Part (Files.caseOf (now file) t) 0 0 0 (now numbers) (now numbers) ⌝ }
-    ensures { λ r. ⌜ Chained.Covered (Files.caseOf (now (file .entry)) t) (t .facts) (now (cover .exit)) ⌝ }
-    ensures { λ r. ⌜ Tables.FactsAdded (Files.caseOf (now (file .entry)) t) (t .facts) (now (charged .exit)) (now (entered .exit)) ⌝ }
-    ensures { λ r. ⌜ Tables.Part (Files.caseOf (now (file .entry)) t) 0 0 (t .facts) (now (numbers .entry)) (now (numbers .exit)) ⌝ }
+    requires { ⌜ Ready (now file) trailer (now counts) ⌝ }
+    requires { ⌜ Chained.Covered (Files.caseOf (now file) trailer) 0 (now cover) ⌝ }
+    requires { ⌜ Tables.FactsAdded (Files.caseOf (now file) trailer) 0 (now charged) (now entered) ⌝ }
+    requires { ⌜ Tables.Part (Files.caseOf (now file) trailer) 0 0 0 (now numbers) (now numbers) ⌝ }
+    ensures { λ r. ⌜ Chained.Covered (Files.caseOf (now (file .entry)) trailer) (trailer .facts) (now (cover .exit)) ⌝ }
+    ensures { λ r. ⌜ Tables.FactsAdded (Files.caseOf (now (file .entry)) trailer) (trailer .facts) (now (charged .exit)) (now (entered .exit)) ⌝ }
+    ensures { λ r. ⌜ Tables.Part (Files.caseOf (now (file .entry)) trailer) 0 0 (trailer .facts) (now (numbers .entry)) (now (numbers .exit)) ⌝ }
 {
     let mut outers: [u16; LOOPS] = [0; LOOPS];
     let mut chain: [u16; CHAINED] = [0; CHAINED];
-    outers::chain_loops(file, t, &mut outers);
-    chains::chain_nodes(file, t, &mut chain);
+    outers::chain_loops(file, trailer, &mut outers);
+    chains::chain_nodes(file, trailer, &mut chain);
     charge_each(
         file,
-        t,
+        trailer,
         counts,
         &outers,
         &chain,

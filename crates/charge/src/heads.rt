@@ -18,16 +18,16 @@ pub struct Head {
 }
 
 // The fact at p: its head, then 16 bytes a row. The head is read before its scope is looked up: read in both branches of that, it made the compiler keep the fact's place in a register through rule 17's loop, and the check 2 % slower.
-pub fn head_at(file: &[u8], t: Trailer, counts: &[u32], p: usize) -> Head
-    requires { ⌜ Ready (now file) t (now counts) ⌝ }
-    requires { ⌜ SoundHead (Files.caseOf (now file) t) (Files.factAt (now file) p) ⌝ }
-    requires { ⌜ Files.factEnd (now file) t p ≤ Files.endAt (now file) ⌝ }
-    ensures { λ r. ⌜ r ≡ Tables.headOf (now (file .entry)) t p ⌝ }
+pub fn head_at(file: &[u8], trailer: Trailer, counts: &[u32], p: usize) -> Head
+    requires { ⌜ Ready (now file) trailer (now counts) ⌝ }
+    requires { ⌜ SoundHead (Files.caseOf (now file) trailer) (Files.factAt (now file) p) ⌝ }
+    requires { ⌜ Files.factEnd (now file) trailer p ≤ Files.endAt (now file) ⌝ }
+    ensures { λ r. ⌜ r ≡ Tables.headOf (now (file .entry)) trailer p ⌝ }
 {
     let scope = layout::scope_at(file, p);
     let block = layout::block_at(file, p);
     let limit = layout::limit_at(file, p);
-    let range = layout::range_at(file, t, scope);
+    let range = layout::range_at(file, trailer, scope);
     Head {
         scope,
         block,

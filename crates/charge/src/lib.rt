@@ -39,13 +39,13 @@ fn clear(numbers: &mut [u64])
 }
 
 // All numbers: "the total, 64 set bounds, 256 fact bounds, unused ones 0, later ones untouched".
-pub fn charge(file: &[u8], t: Trailer, counts: &[u32], numbers: &mut [u64])
-    requires { ⌜ Laid (now file) t ⌝ }
-    requires { ⌜ Sound (Files.caseOf (now file) t) ⌝ }
-    requires { ⌜ Placed (now file) t ⌝ }
-    requires { ⌜ Counted (now file) t (now counts) ⌝ }
+pub fn charge(file: &[u8], trailer: Trailer, counts: &[u32], numbers: &mut [u64])
+    requires { ⌜ Laid (now file) trailer ⌝ }
+    requires { ⌜ Sound (Files.caseOf (now file) trailer) ⌝ }
+    requires { ⌜ Placed (now file) trailer ⌝ }
+    requires { ⌜ Counted (now file) trailer (now counts) ⌝ }
     requires { ⌜ Bounds.listLength ≤ length (now numbers) ⌝ }
-    ensures { λ r. ⌜ now (numbers .exit) ≡ Bounds.numbers (Files.caseOf (now (file .entry)) t) ++ drop Bounds.listLength (now (numbers .entry)) ⌝ }
+    ensures { λ r. ⌜ now (numbers .exit) ≡ Bounds.numbers (Files.caseOf (now (file .entry)) trailer) ++ drop Bounds.listLength (now (numbers .entry)) ⌝ }
 {
     let mut cover: [u16; NODES] = [NO_LIMIT; NODES];
     let mut charged: [u64; SETS] = [0; SETS];
@@ -55,13 +55,13 @@ pub fn charge(file: &[u8], t: Trailer, counts: &[u32], numbers: &mut [u64])
     clear(numbers);
     facts::charge_facts(
         file,
-        t,
+        trailer,
         counts,
         &mut cover,
         &mut charged,
         &mut entered,
         numbers,
     );
-    nodes::charge_nodes(file, t, counts, &cover, &mut fetched, &mut spent);
-    sets::charge_sets(file, t, &charged, &entered, &fetched, &spent, numbers);
+    nodes::charge_nodes(file, trailer, counts, &cover, &mut fetched, &mut spent);
+    sets::charge_sets(file, trailer, &charged, &entered, &fetched, &spent, numbers);
 }

@@ -12,24 +12,24 @@ use paper::Trailer;
 // All nodes: their counts by set, and by set and the least limit that covers them.
 pub fn charge_nodes(
     file: &[u8],
-    t: Trailer,
+    trailer: Trailer,
     counts: &[u32],
     cover: &[u16; NODES],
     fetched: &mut [u64; SETS],
     spent: &mut [u64; SETS_BY_LIMITS],
 )
-    requires { ⌜ Ready (now file) t (now counts) ⌝ }
-    requires { ⌜ Chained.Covered (Files.caseOf (now file) t) (t .facts) (now cover) ⌝ }
-    requires { ⌜ Tables.NodesAdded (Files.caseOf (now file) t) 0 (now fetched) (now spent) ⌝ }
-    ensures { λ r. ⌜ Tables.NodesAdded (Files.caseOf (now (file .entry)) t) (t .nodes) (now (fetched .exit)) (now (spent .exit)) ⌝ }
+    requires { ⌜ Ready (now file) trailer (now counts) ⌝ }
+    requires { ⌜ Chained.Covered (Files.caseOf (now file) trailer) (trailer .facts) (now cover) ⌝ }
+    requires { ⌜ Tables.NodesAdded (Files.caseOf (now file) trailer) 0 (now fetched) (now spent) ⌝ }
+    ensures { λ r. ⌜ Tables.NodesAdded (Files.caseOf (now (file .entry)) trailer) (trailer .nodes) (now (fetched .exit)) (now (spent .exit)) ⌝ }
 {
-    let n = t.nodes;
+    let n = trailer.nodes;
     let mut v: u16 = 0;
     while v < n {
-        let b = layout::node_at(file, t, v);
+        let b = layout::node_at(file, trailer, v);
         let at = v as usize;
         let x = amounts::count_if(b != 65535, counts[at]);
-        amounts::add(fetched, spent, t.sets, b, cover[at], x, x);
+        amounts::add(fetched, spent, trailer.sets, b, cover[at], x, x);
         v += 1;
     }
 }

@@ -13,18 +13,18 @@ use crate::sizes::LOOPS;
 use paper::Trailer;
 
 // The next loop out of loop j, plus 1; 0 where there is none. Of loops that end before this header, those between one and the next out of it end before it too, and are passed over.
-fn next_out(file: &[u8], t: Trailer, outers: &[u16; LOOPS], j: u16) -> u16
-    requires { ⌜ Laid (now file) t ⌝ }
-    requires { ⌜ SoundGraph (Files.caseOf (now file) t) ⌝ }
-    requires { ⌜ NextOut.Outers (Files.caseOf (now file) t) j (now outers) ⌝ }
-    requires { ⌜ j < t .loops ⌝ }
-    ensures { λ r. ⌜ r ≡ NextOut.nextOut (Files.caseOf (now (file .entry)) t) j ⌝ }
+fn next_out(file: &[u8], trailer: Trailer, outers: &[u16; LOOPS], j: u16) -> u16
+    requires { ⌜ Laid (now file) trailer ⌝ }
+    requires { ⌜ SoundGraph (Files.caseOf (now file) trailer) ⌝ }
+    requires { ⌜ NextOut.Outers (Files.caseOf (now file) trailer) j (now outers) ⌝ }
+    requires { ⌜ j < trailer .loops ⌝ }
+    ensures { λ r. ⌜ r ≡ NextOut.nextOut (Files.caseOf (now (file .entry)) trailer) j ⌝ }
 {
-    let header = layout::loop_at(file, t, j).first;
+    let header = layout::loop_at(file, trailer, j).first;
     let mut c = j;
     while 0 < c {
         let at = c - 1;
-        if header <= layout::loop_at(file, t, at).last {
+        if header <= layout::loop_at(file, trailer, at).last {
             return c;
         }
         c = outers[at as usize];
@@ -33,16 +33,16 @@ fn next_out(file: &[u8], t: Trailer, outers: &[u16; LOOPS], j: u16) -> u16
 }
 
 // The next loop out of each loop.
-pub fn chain_loops(file: &[u8], t: Trailer, outers: &mut [u16; LOOPS])
-    requires { ⌜ Laid (now file) t ⌝ }
-    requires { ⌜ SoundGraph (Files.caseOf (now file) t) ⌝ }
-    requires { ⌜ NextOut.Outers (Files.caseOf (now file) t) 0 (now outers) ⌝ }
-    ensures { λ r. ⌜ NextOut.Outers (Files.caseOf (now (file .entry)) t) (t .loops) (now (outers .exit)) ⌝ }
+pub fn chain_loops(file: &[u8], trailer: Trailer, outers: &mut [u16; LOOPS])
+    requires { ⌜ Laid (now file) trailer ⌝ }
+    requires { ⌜ SoundGraph (Files.caseOf (now file) trailer) ⌝ }
+    requires { ⌜ NextOut.Outers (Files.caseOf (now file) trailer) 0 (now outers) ⌝ }
+    ensures { λ r. ⌜ NextOut.Outers (Files.caseOf (now (file .entry)) trailer) (trailer .loops) (now (outers .exit)) ⌝ }
 {
-    let n = t.loops;
+    let n = trailer.loops;
     let mut j: u16 = 0;
     while j < n {
-        outers[j as usize] = next_out(file, t, outers, j);
+        outers[j as usize] = next_out(file, trailer, outers, j);
         j += 1;
     }
 }
@@ -50,17 +50,17 @@ pub fn chain_loops(file: &[u8], t: Trailer, outers: &mut [u16; LOOPS])
 // E of the fact at p, whose scope is w: "the whole graph with one entry".
 pub fn entries_of(
     file: &[u8],
-    t: Trailer,
+    trailer: Trailer,
     counts: &[u32],
     outers: &[u16; LOOPS],
     p: usize,
     w: u16,
 ) -> u64
-    requires { ⌜ Ready (now file) t (now counts) ⌝ }
-    requires { ⌜ NextOut.Outers (Files.caseOf (now file) t) (t .loops) (now outers) ⌝ }
+    requires { ⌜ Ready (now file) trailer (now counts) ⌝ }
+    requires { ⌜ NextOut.Outers (Files.caseOf (now file) trailer) (trailer .loops) (now outers) ⌝ }
     requires { ⌜ w ≡ Files.factAt (now file) p .scope ⌝ }
-    requires { ⌜ (w ≢ 65535 → w < t .loops) ⌝ }
-    ensures { λ r. ⌜ r ≡ Graphs.entries (Files.caseOf (now (file .entry)) t) (Files.factAt (now (file .entry)) p) ⌝ }
+    requires { ⌜ (w ≢ 65535 → w < trailer .loops) ⌝ }
+    ensures { λ r. ⌜ r ≡ Graphs.entries (Files.caseOf (now (file .entry)) trailer) (Files.factAt (now (file .entry)) p) ⌝ }
     ensures { λ r. ⌜ r ≤ Ceilings.mostCount ⌝ }
 {
     if w == 65535 {
@@ -70,6 +70,6 @@ pub fn entries_of(
     if c == 0 {
         return 1;
     }
-    let header = layout::loop_at(file, t, c - 1).first as usize;
+    let header = layout::loop_at(file, trailer, c - 1).first as usize;
     counts[header] as u64
 }

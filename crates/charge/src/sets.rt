@@ -18,7 +18,7 @@ use paper::Trailer;
 // "the least of A and, for each l from 1 to k, floor(k·M(l)/(k-l+1))": M(l) is M(l-1), with the entries of the facts of limit l for the counts that they cover.
 fn least_floor(
     file: &[u8],
-    t: Trailer,
+    trailer: Trailer,
     charged: &[u64; SETS],
     entered: &[u64; SETS_BY_LIMITS],
     fetched: &[u64; SETS],
@@ -26,12 +26,12 @@ fn least_floor(
     q: usize,
     a: u64,
 ) -> u64
-    requires { ⌜ Summed (now file) t (now charged) (now entered) (now fetched) (now spent) ⌝ }
+    requires { ⌜ Summed (now file) trailer (now charged) (now entered) (now fetched) (now spent) ⌝ }
     requires { ⌜ q < Sizes.sets ⌝ }
-    ensures { λ r. ⌜ r ≡ lowestTo (Bounds.floorAt (Files.caseOf (now (file .entry)) t) q) a (t .ways) ⌝ }
+    ensures { λ r. ⌜ r ≡ lowestTo (Bounds.floorAt (Files.caseOf (now (file .entry)) trailer) q) a (trailer .ways) ⌝ }
     ensures { λ r. ⌜ r ≤ a ⌝ }
 {
-    let k = t.ways as u64;
+    let k = trailer.ways as u64;
     let mut m = fetched[q];
     let mut x = a;
     let mut j: u64 = 0;
@@ -39,7 +39,7 @@ fn least_floor(
         let l = j + 1;
         let at = LIMITS * q + l as usize;
         m = m + entered[at] - spent[at];
-        x = formulas::lesser(x, formulas::floor_of(t, l, m));
+        x = formulas::lesser(x, formulas::floor_of(trailer, l, m));
         j = l;
     }
     x
@@ -48,21 +48,21 @@ fn least_floor(
 // "Set bound: for LRU and NMRU, A. For FIFO, the least of A and" the floors.
 fn set_bound(
     file: &[u8],
-    t: Trailer,
+    trailer: Trailer,
     charged: &[u64; SETS],
     entered: &[u64; SETS_BY_LIMITS],
     fetched: &[u64; SETS],
     spent: &[u64; SETS_BY_LIMITS],
     q: usize,
 ) -> u64
-    requires { ⌜ Summed (now file) t (now charged) (now entered) (now fetched) (now spent) ⌝ }
+    requires { ⌜ Summed (now file) trailer (now charged) (now entered) (now fetched) (now spent) ⌝ }
     requires { ⌜ q < Sizes.sets ⌝ }
-    ensures { λ r. ⌜ r ≡ Bounds.setBound (Files.caseOf (now (file .entry)) t) q ⌝ }
+    ensures { λ r. ⌜ r ≡ Bounds.setBound (Files.caseOf (now (file .entry)) trailer) q ⌝ }
     ensures { λ r. ⌜ r ≤ Largest.largestA ⌝ }
 {
     let a = charged[q] + spent[LIMITS * q + NO_LIMIT as usize];
-    if paper::has_floors(t.policy) {
-        return least_floor(file, t, charged, entered, fetched, spent, q, a);
+    if paper::has_floors(trailer.policy) {
+        return least_floor(file, trailer, charged, entered, fetched, spent, q, a);
     }
     a
 }
@@ -70,22 +70,22 @@ fn set_bound(
 // The sets' bounds, and "Total: the sum over sets."
 pub fn charge_sets(
     file: &[u8],
-    t: Trailer,
+    trailer: Trailer,
     charged: &[u64; SETS],
     entered: &[u64; SETS_BY_LIMITS],
     fetched: &[u64; SETS],
     spent: &[u64; SETS_BY_LIMITS],
     numbers: &mut [u64],
 )
-    requires { ⌜ Summed (now file) t (now charged) (now entered) (now fetched) (now spent) ⌝ }
-    requires { ⌜ Tables.Part (Files.caseOf (now file) t) 0 0 (t .facts) (now numbers) (now numbers) ⌝ }
-    ensures { λ r. ⌜ Tables.Part (Files.caseOf (now (file .entry)) t) (Bounds.totalBound (Files.caseOf (now (file .entry)) t)) (t .sets) (t .facts) (now (numbers .entry)) (now (numbers .exit)) ⌝ }
+    requires { ⌜ Summed (now file) trailer (now charged) (now entered) (now fetched) (now spent) ⌝ }
+    requires { ⌜ Tables.Part (Files.caseOf (now file) trailer) 0 0 (trailer .facts) (now numbers) (now numbers) ⌝ }
+    ensures { λ r. ⌜ Tables.Part (Files.caseOf (now (file .entry)) trailer) (Bounds.totalBound (Files.caseOf (now (file .entry)) trailer)) (trailer .sets) (trailer .facts) (now (numbers .entry)) (now (numbers .exit)) ⌝ }
 {
-    let n = t.sets as usize;
+    let n = trailer.sets as usize;
     let mut total: u64 = 0;
     let mut q: usize = 0;
     while q < n {
-        let x = set_bound(file, t, charged, entered, fetched, spent, q);
+        let x = set_bound(file, trailer, charged, entered, fetched, spent, q);
         numbers[SETS_FROM + q] = x;
         total += x;
         q += 1;

@@ -17,32 +17,32 @@ use Rattle.evidence.specs.Stands.{Stands, factOf}
 use Rattle.evidence.specs.RowParts.{missing, forgets, breaksAt}
 use Rattle.paper.proofs.RowLaws.{held-set}
 
-module _ (f : List ℕ) (t : Trailer) (h : Head) (p : Stands f t h) (x i j s m : ℕ) (sj : s ≡ rowPlace (h .place) j) (b : m ≡ rowAt f s .number) where
+module _ (f : List ℕ) (trailer : Trailer) (h : Head) (p : Stands f trailer h) (x i j s m : ℕ) (sj : s ≡ rowPlace (h .place) j) (b : m ≡ rowAt f s .number) where
   -- "u fetches b: row v is not 9"
-  pub breaks-b : x ≡ h .block → eqb m 9 ≡ breaksAt f t h x i j
+  pub breaks-b : x ≡ h .block → eqb m 9 ≡ breaksAt f trailer h x i j
   unfolding breaks
   breaks-b q = rw (eq-eqb _ _ (q ∙ p .block), ← sj, ← b) refl
 
   module _ (q : x ≢ h .block) (r n : ℕ) (ri : r ≡ rowPlace (h .place) i) (a : n ≡ rowAt f r .number) where
     other :
-        breaksAt f t h x i j
+        breaksAt f trailer h x i j
         ≡ cond (eqb n 9) false
-        (cond (eqb n 8) (not (eqb m 8)) (cond (eqb m 8) false (leb 8 m || lacks (caseOf f t) (factOf f h) x (rowAt f r) (rowAt f s))))
+        (cond (eqb n 8) (not (eqb m 8)) (cond (eqb m 8) false (leb 8 m || lacks (caseOf f trailer) (factOf f h) x (rowAt f r) (rowAt f s))))
     unfolding breaks
     other = rw (ne-eqb _ _ (λ z. q (z ∙ sym (p .block))), ← ri, ← sj, ← a, ← b) refl
 
     -- "else row u is 9: nothing is required"
-    pub breaks-not-since : n ≡ 9 → false ≡ breaksAt f t h x i j
+    pub breaks-not-since : n ≡ 9 → false ≡ breaksAt f trailer h x i j
     breaks-not-since e = sym (other ∙ rw (eq-eqb n 9 e) refl)
 
     module _ (l : n ≢ 9) where
       -- "else row u is 8: row v is 8"
-      pub breaks-many : n ≡ 8 → not (eqb m 8) ≡ breaksAt f t h x i j
+      pub breaks-many : n ≡ 8 → not (eqb m 8) ≡ breaksAt f trailer h x i j
       breaks-many e = sym (other ∙ rw (ne-eqb n 9 l, eq-eqb n 8 e) refl)
 
       module _ (k : n ≢ 8) where
         -- "else row v is 8, or a set"
-        pub breaks-no-set : 8 ≤ m → not (eqb m 8) ≡ breaksAt f t h x i j
+        pub breaks-no-set : 8 ≤ m → not (eqb m 8) ≡ breaksAt f trailer h x i j
         breaks-no-set w =
             sym
             (other
@@ -50,18 +50,18 @@ module _ (f : List ℕ) (t : Trailer) (h : Head) (p : Stands f t h) (x i j s m :
             (elim (ℕ-discrete m 8) [ yes z ↦ rw (eq-eqb m 8 z) refl | no z ↦ rw (ne-eqb m 8 z, le-leb 8 m w) refl ]))
 
         module _ (w : m < 8) where
-          parts : breaksAt f t h x i j ≡ (some (missing (rowAt f r) (rowAt f s)) (held (rowAt f r)) || forgets (caseOf f t) (factOf f h) x (rowAt f s))
+          parts : breaksAt f trailer h x i j ≡ (some (missing (rowAt f r) (rowAt f s)) (held (rowAt f r)) || forgets (caseOf f trailer) (factOf f h) x (rowAt f s))
           unfolding lacks missing forgets
           parts =
               let z : m ≢ 8 = omega arith in
               other ∙ rw (ne-eqb n 9 l, ne-eqb n 8 k, ne-eqb m 8 z, lt-leb 8 m w) refl
 
           -- "and also u's block where u fetches one of b's set"
-          pub breaks-lost : (c : Bool) → c ≡ forgets (caseOf f t) (factOf f h) x (rowAt f s) → c ≡ true → true ≡ breaksAt f t h x i j
+          pub breaks-lost : (c : Bool) → c ≡ forgets (caseOf f trailer) (factOf f h) x (rowAt f s) → c ≡ true → true ≡ breaksAt f trailer h x i j
           breaks-lost c u z = sym (parts ∙ rw (sym u ∙ z) (or-true (some (missing (rowAt f r) (rowAt f s)) (held (rowAt f r)))))
 
           -- "that holds row u's blocks"
           pub breaks-drops :
-              (c d : Bool) → c ≡ forgets (caseOf f t) (factOf f h) x (rowAt f s) → c ≡ false → n < 8 →
-              d ≡ some (missing (rowAt f r) (rowAt f s)) n → d ≡ breaksAt f t h x i j
+              (c d : Bool) → c ≡ forgets (caseOf f trailer) (factOf f h) x (rowAt f s) → c ≡ false → n < 8 →
+              d ≡ some (missing (rowAt f r) (rowAt f s)) n → d ≡ breaksAt f trailer h x i j
           breaks-drops c d u z o v = v ∙ sym (parts ∙ rw (sym u ∙ z, held-set (rowAt f r) (omega arith) ∙ sym a) (or-false (some (missing (rowAt f r) (rowAt f s)) n)))

@@ -63,9 +63,9 @@ module _ (e : Case) (t : Fact) (r : Row) (n : ℕ) (q : n ≡ r .number) where
             a ∙ rest-test n r e t (held-set r (omega arith) ∙ sym q) (none-some (badSlot e t r) n (sym w ∙ z)) ∙ sym slots
 
 -- the row of the scope's node j, once rule 16 is passed
-module _ (f : List ℕ) (t : Trailer) (h : Head) (w : SoundRows f t h) (j at n : ℕ) (l : j < nodesOf h) (q : at ≡ rowPlace (h .place) j) (a : n ≡ rowAt f at .number) where
-  sound-at : SoundRow (caseOf f t) (factOf f h) (rowAt f at)
-  sound-at = row-law (caseOf f t) (factOf f h) (rowAt f at) .0 (row-is (caseOf f t) f (h .place) j at q ∙ w .sound j l)
+module _ (f : List ℕ) (trailer : Trailer) (h : Head) (w : SoundRows f trailer h) (j at n : ℕ) (l : j < nodesOf h) (q : at ≡ rowPlace (h .place) j) (a : n ≡ rowAt f at .number) where
+  sound-at : SoundRow (caseOf f trailer) (factOf f h) (rowAt f at)
+  sound-at = row-law (caseOf f trailer) (factOf f h) (rowAt f at) .0 (row-is (caseOf f trailer) f (h .place) j at q ∙ w .sound j l)
 
   pub number-at : n ≤ 9
   number-at = omega (arith, sound-at .number)

@@ -32,67 +32,67 @@ out a z v = ltb v a || ltb z v
 pub in-range : (a z v : ℕ) → out a z v ≡ false → (a ≤ v) × (v ≤ z)
 in-range a z v e = let n = neither (ltb v a) _ e in (ltb-false v a (n .0), ltb-false z v (n .1))
 
-module _ (f : List ℕ) (t : Trailer) (h : Head) (s : Stands f t h) where
-  in-scope : (v : ℕ) → In (scopeOf (caseOf f t) (factOf f h)) v ↔ ((h .first ≤ v) × (v ≤ h .last))
+module _ (f : List ℕ) (trailer : Trailer) (h : Head) (s : Stands f trailer h) where
+  in-scope : (v : ℕ) → In (scopeOf (caseOf f trailer) (factOf f h)) v ↔ ((h .first ≤ v) × (v ≤ h .last))
   unfolding caseOf
   in-scope v = (λ p. omega (arith, s .first, s .last), λ p. omega (arith, s .first, s .last))
 
   module _ (i : ℕ) where
     -- an edge that comes from a node before the scope or after it
-    step-out : ¬ ((h .first ≤ fromAt f t i) × (fromAt f t i ≤ h .last)) → badStepAt (caseOf f t) (factOf f h) i ≡ false
+    step-out : ¬ ((h .first ≤ fromAt f trailer i) × (fromAt f trailer i ≤ h .last)) → badStepAt (caseOf f trailer) (factOf f h) i ≡ false
     unfolding caseOf
-    step-out n = says-false (step-says (caseOf f t) (factOf f h) i) .1 (λ p. n (in-scope _ .0 (p .0 .0)))
+    step-out n = says-false (step-says (caseOf f trailer) (factOf f h) i) .1 (λ p. n (in-scope _ .0 (p .0 .0)))
 
-    pub step-before : fromAt f t i < h .first → badStepAt (caseOf f t) (factOf f h) i ≡ false
+    pub step-before : fromAt f trailer i < h .first → badStepAt (caseOf f trailer) (factOf f h) i ≡ false
     step-before l = step-out (λ p. omega arith)
 
-    pub step-after : h .last < fromAt f t i → badStepAt (caseOf f t) (factOf f h) i ≡ false
+    pub step-after : h .last < fromAt f trailer i → badStepAt (caseOf f trailer) (factOf f h) i ≡ false
     step-after l = step-out (λ p. omega arith)
 
-    module _ (u v : ℕ) (w : From f t h i u) (b : v ≡ toAt f t i) where
-      pub step-leaves : out (h .first) (h .last) v ≡ true → false ≡ badStepAt (caseOf f t) (factOf f h) i
+    module _ (u v : ℕ) (w : From f trailer h i u) (b : v ≡ toAt f trailer i) where
+      pub step-leaves : out (h .first) (h .last) v ≡ true → false ≡ badStepAt (caseOf f trailer) (factOf f h) i
       unfolding caseOf
       step-leaves e =
           let o = says-true (says-or (says-lt v (h .first)) (says-lt (h .last) v)) e in
           sym
-          (says-false (step-says (caseOf f t) (factOf f h) i) .1
-          (λ p. let q = in-scope (toAt f t i) .0 (p .0 .1) in ⊎-elim (λ l. omega arith) (λ l. omega arith) o))
+          (says-false (step-says (caseOf f trailer) (factOf f h) i) .1
+          (λ p. let q = in-scope (toAt f trailer i) .0 (p .0 .1) in ⊎-elim (λ l. omega arith) (λ l. omega arith) o))
 
       pub step-in :
           (x : ℕ) (c : Bool) → out (h .first) (h .last) v ≡ false →
-          x ≡ nodeAt f u → c ≡ breaksAt f t h x (u - h .first) (v - h .first) → c ≡ badStepAt (caseOf f t) (factOf f h) i
+          x ≡ nodeAt f u → c ≡ breaksAt f trailer h x (u - h .first) (v - h .first) → c ≡ badStepAt (caseOf f trailer) (factOf f h) i
       unfolding badStepAt caseOf
       step-in x c e q z =
-          let a = says-is (inside-says (scopeOf (caseOf f t) (factOf f h)) u) (in-scope u .1 (w .low, w .high)) in
-          let o = says-is (inside-says (scopeOf (caseOf f t) (factOf f h)) v) (in-scope v .1 (in-range _ _ v e)) in
+          let a = says-is (inside-says (scopeOf (caseOf f trailer) (factOf f h)) u) (in-scope u .1 (w .low, w .high)) in
+          let o = says-is (inside-says (scopeOf (caseOf f trailer) (factOf f h)) v) (in-scope v .1 (in-range _ _ v e)) in
           z ∙ rw (← w .from-is, ← b, a, o, q, s .first) refl
 
 -- A loop over the edges from nodes of the scope is at edge i.
-pub record Reached (f : List ℕ) (t : Trailer) (h : Head) (i : ℕ) : Type 0 where
-  pub passed : Passed (badStepAt (caseOf f t) (factOf f h)) (t .edges) i
-  pub above : (k : ℕ) → i ≤ k → k < t .edges → h .first ≤ fromAt f t k
+pub record Reached (f : List ℕ) (trailer : Trailer) (h : Head) (i : ℕ) : Type 0 where
+  pub passed : Passed (badStepAt (caseOf f trailer) (factOf f h)) (trailer .edges) i
+  pub above : (k : ℕ) → i ≤ k → k < trailer .edges → h .first ≤ fromAt f trailer k
 
-module _ (f : List ℕ) (t : Trailer) (h : Head) (s : Stands f t h) (i : ℕ) where
-  pub reached-start : Splits f t (h .first) i i → Reached f t h i
+module _ (f : List ℕ) (trailer : Trailer) (h : Head) (s : Stands f trailer h) (i : ℕ) where
+  pub reached-start : Splits f trailer (h .first) i i → Reached f trailer h i
   reached-start w =
       record {
-        passed = record { within = w .within; none = λ k q. step-before f t h s k (w .below k q) };
+        passed = record { within = w .within; none = λ k q. step-before f trailer h s k (w .below k q) };
         above = w .above;
       }
 
-  module _ (w : Reached f t h i) (l : i < t .edges) where
-    pub reached-more : (b : Bool) → b ≡ badStepAt (caseOf f t) (factOf f h) i → b ≡ false → Reached f t h (i + 1)
+  module _ (w : Reached f trailer h i) (l : i < trailer .edges) where
+    pub reached-more : (b : Bool) → b ≡ badStepAt (caseOf f trailer) (factOf f h) i → b ≡ false → Reached f trailer h (i + 1)
     reached-more b e z =
         record { passed = passed-more _ _ _ b (w .passed) l e z; above = λ k q. w .above k (omega arith) }
 
     -- the edges from here on come from nodes after the scope
-    pub reached-after : Shaped (caseOf f t) → (u : ℕ) → u ≡ fromAt f t i → h .last < u → false ≡ some (badStepAt (caseOf f t) (factOf f h)) (t .edges)
+    pub reached-after : Shaped (caseOf f trailer) → (u : ℕ) → u ≡ fromAt f trailer i → h .last < u → false ≡ some (badStepAt (caseOf f trailer) (factOf f h)) (trailer .edges)
     unfolding caseOf
     reached-after o u e q =
         sym
-        (some-none (badStepAt (caseOf f t) (factOf f h)) (t .edges)
+        (some-none (badStepAt (caseOf f trailer) (factOf f h)) (trailer .edges)
         (λ k z.
         elim (decLe i k) [
-          | yes y ↦ step-after f t h s k (omega (arith, climbs (fromAt f t) (t .edges) (o .climbs) i k y z))
+          | yes y ↦ step-after f trailer h s k (omega (arith, climbs (fromAt f trailer) (trailer .edges) (o .climbs) i k y z))
           | no y ↦ w .passed .none k (omega arith)
         ]))

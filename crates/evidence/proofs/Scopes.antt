@@ -15,17 +15,17 @@ use Rattle.paper.specs.Verdicts.{rowRules, stepRules, manyRules, evidenceRules}
 use Rattle.evidence.specs.declared.Head.{Head}
 use Rattle.evidence.specs.Stands.{Stands, factOf, nodesOf}
 
-module _ (f : List ℕ) (t : Trailer) (h : Head) (s : Stands f t h) where
-  pub scope-size : size (scopeOf (caseOf f t) (factOf f h)) ≡ nodesOf h
+module _ (f : List ℕ) (trailer : Trailer) (h : Head) (s : Stands f trailer h) where
+  pub scope-size : size (scopeOf (caseOf f trailer) (factOf f h)) ≡ nodesOf h
   unfolding caseOf
   scope-size = cc
 
-  edges-is : caseOf f t .edges ≡ t .edges
+  edges-is : caseOf f trailer .edges ≡ trailer .edges
   unfolding caseOf
   edges-is = refl
 
-  pub home-is : h .home ≡ factOf f h .block % t .sets
-  home-is = s .home ∙ ap (λ b. b % t .sets) (s .block)
+  pub home-is : h .home ≡ factOf f h .block % trailer .sets
+  home-is = s .home ∙ ap (λ b. b % trailer .sets) (s .block)
 
   pub limit-low : (n : ℕ) → h .limit ≤ n → factOf f h .limit ≤ n
   limit-low n l = omega (arith, s .limit)
@@ -33,14 +33,14 @@ module _ (f : List ℕ) (t : Trailer) (h : Head) (s : Stands f t h) where
   pub limit-high : (n : ℕ) → n < h .limit → n < factOf f h .limit
   limit-high n l = omega (arith, s .limit)
 
-  pub unfetched-is : (n : ℕ) (b : Bool) → n ≡ nodesOf h → b ≡ some (fetches (caseOf f t) (factOf f h)) n → not b ≡ unfetched (caseOf f t) (factOf f h)
+  pub unfetched-is : (n : ℕ) (b : Bool) → n ≡ nodesOf h → b ≡ some (fetches (caseOf f trailer) (factOf f h)) n → not b ≡ unfetched (caseOf f trailer) (factOf f h)
   unfolding unfetched
   unfetched-is n b e q = rw (scope-size, ← e, ← q) refl
 
   pub evidence-is :
-      (i : ℕ) (a b c : Bool) → a ≡ some (badRowAt (caseOf f t) (factOf f h)) (nodesOf h) → b ≡ some (badStepAt (caseOf f t) (factOf f h)) (t .edges) →
-      c ≡ some (badManyAt (caseOf f t) (factOf f h)) (nodesOf h) →
-      rule 16 i a (rule 17 i b (rule 18 i c Accepted)) ≡ evidenceRules (caseOf f t) i (factOf f h) Accepted
+      (i : ℕ) (a b c : Bool) → a ≡ some (badRowAt (caseOf f trailer) (factOf f h)) (nodesOf h) → b ≡ some (badStepAt (caseOf f trailer) (factOf f h)) (trailer .edges) →
+      c ≡ some (badManyAt (caseOf f trailer) (factOf f h)) (nodesOf h) →
+      rule 16 i a (rule 17 i b (rule 18 i c Accepted)) ≡ evidenceRules (caseOf f trailer) i (factOf f h) Accepted
   unfolding rowRules stepRules manyRules
   evidence-is i a b c x y z = cc (scope-size, edges-is)
 

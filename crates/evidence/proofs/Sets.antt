@@ -25,19 +25,19 @@ use Rattle.evidence.proofs.Scopes.{home-is}
 use Rattle.evidence.proofs.Climbs.{climbs}
 
 -- the block x of node u, where u fetches one of b's set
-module _ (f : List ℕ) (t : Trailer) (h : Head) (a : Stands f t h) (x : ℕ) (s : Row) where
-  pub forgets-none : x ≡ none → false ≡ forgets (caseOf f t) (factOf f h) x s
+module _ (f : List ℕ) (trailer : Trailer) (h : Head) (a : Stands f trailer h) (x : ℕ) (s : Row) where
+  pub forgets-none : x ≡ none → false ≡ forgets (caseOf f trailer) (factOf f h) x s
   unfolding forgets
   forgets-none e = rw (eq-eqb x none e) refl
 
-  module _ (q : x ≢ none) (y : ℕ) (o : y ≡ x % t .sets) where
-    pub forgets-other : y ≢ h .home → false ≡ forgets (caseOf f t) (factOf f h) x s
+  module _ (q : x ≢ none) (y : ℕ) (o : y ≡ x % trailer .sets) where
+    pub forgets-other : y ≢ h .home → false ≡ forgets (caseOf f trailer) (factOf f h) x s
     unfolding forgets sameSet caseOf
-    forgets-other w = rw (ne-eqb x none q, ne-eqb _ _ (λ z. w (o ∙ z ∙ sym (home-is f t h a)))) refl
+    forgets-other w = rw (ne-eqb x none q, ne-eqb _ _ (λ z. w (o ∙ z ∙ sym (home-is f trailer h a)))) refl
 
-    pub forgets-same : (b : Bool) → y ≡ h .home → b ≡ holds s x → not b ≡ forgets (caseOf f t) (factOf f h) x s
+    pub forgets-same : (b : Bool) → y ≡ h .home → b ≡ holds s x → not b ≡ forgets (caseOf f trailer) (factOf f h) x s
     unfolding forgets sameSet caseOf
-    forgets-same b w e = rw (ne-eqb x none q, eq-eqb _ _ (sym o ∙ w ∙ home-is f t h a), ← e) refl
+    forgets-same b w e = rw (ne-eqb x none q, eq-eqb _ _ (sym o ∙ w ∙ home-is f trailer h a), ← e) refl
 
 -- "strictly rising"
 abbrev Rises : Row → ℕ → Type 0

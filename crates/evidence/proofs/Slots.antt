@@ -50,10 +50,10 @@ below-lowest r (suc k) x =
 pub set-held : {f : List ℕ} {at n : ℕ} → SetAt f at n → held (rowAt f at) ≡ n
 set-held s = held-set _ (omega (arith, s .number, s .few)) ∙ sym (s .number)
 
-module _ (f : List ℕ) (t : Trailer) (h : Head) (r : Row) (k x : ℕ) (q : x ≡ r .slot k) where
+module _ (f : List ℕ) (trailer : Trailer) (h : Head) (r : Row) (k x : ℕ) (q : x ≡ r .slot k) where
   -- a block of a set
-  pub block-test : (n low y : ℕ) → Stands f t h → held r ≡ n → k < n → low ≡ lowest r k → y ≡ x % t .sets →
-      (eqb x none || (eqb x (h .block) || (not (eqb y (h .home)) || ltb x low))) ≡ badSlot (caseOf f t) (factOf f h) r k
+  pub block-test : (n low y : ℕ) → Stands f trailer h → held r ≡ n → k < n → low ≡ lowest r k → y ≡ x % trailer .sets →
+      (eqb x none || (eqb x (h .block) || (not (eqb y (h .home)) || ltb x low))) ≡ badSlot (caseOf f trailer) (factOf f h) r k
   unfolding badSlot sameSet caseOf
   block-test n low y s e l w z = rw (e, lt-ltb k n l, w, below-lowest r k x, z, s .home, s .block, q) refl
 

@@ -7,15 +7,15 @@ use Rattle.paper.specs.Files.{fromAt}
 use Rattle.evidence.specs.declared.Head.{Head}
 
 -- The edges before `low` come from nodes before v, and those from `high` on do not.
-pub record Splits (f : List ℕ) (t : Trailer) (v low high : ℕ) : Type 0 where
+pub record Splits (f : List ℕ) (trailer : Trailer) (v low high : ℕ) : Type 0 where
   pub meets : low ≤ high
-  pub within : high ≤ t .edges
-  pub below : (k : ℕ) → k < low → fromAt f t k < v
-  pub above : (k : ℕ) → high ≤ k → k < t .edges → v ≤ fromAt f t k
+  pub within : high ≤ trailer .edges
+  pub below : (i : ℕ) → i < low → fromAt f trailer i < v
+  pub above : (i : ℕ) → high ≤ i → i < trailer .edges → v ≤ fromAt f trailer i
 
 -- Edge i comes from u, a node of the scope.
-pub record From (f : List ℕ) (t : Trailer) (h : Head) (i u : ℕ) : Type 0 where
-  pub there : i < t .edges
-  pub from-is : u ≡ fromAt f t i
+pub record From (f : List ℕ) (trailer : Trailer) (h : Head) (i u : ℕ) : Type 0 where
+  pub there : i < trailer .edges
+  pub from-is : u ≡ fromAt f trailer i
   pub low : h .first ≤ u
   pub high : u ≤ h .last

@@ -23,15 +23,15 @@ pub record SetAt (f : List ℕ) (at n : ℕ) : Type 0 where
 -- The same, and it is "strictly rising".
 pub record RisingAt (f : List ℕ) (at n : ℕ) : Type 0 where
   pub set : SetAt f at n
-  pub rises : (k : ℕ) → suc k < n → rowAt f at .slot k < rowAt f at .slot (suc k)
+  pub rises : (i : ℕ) → suc i < n → rowAt f at .slot i < rowAt f at .slot (suc i)
 
--- "free slots are 65,535": slot k is one of those from n on, and is not free
+-- "free slots are 65,535": slot i is one of those from n on, and is not free
 unfoldable pub unfree : ℕ → Row → ℕ → Bool
-unfree n r k = leb n k && not (eqb (r .slot k) none)
+unfree n r i = leb n i && not (eqb (r .slot i) none)
 
--- row s lacks block k of row r
+-- row s lacks block i of row r
 unfoldable pub missing : Row → Row → ℕ → Bool
-missing r s k = not (holds s (r .slot k))
+missing r s i = not (holds s (r .slot i))
 
 -- row s lacks the block x "where u fetches one of b's set"
 unfoldable pub forgets : Case → Fact → ℕ → Row → Bool
@@ -39,4 +39,4 @@ forgets e t x s = not (eqb x none) && (sameSet e x (t .block) && not (holds s x)
 
 -- the rule for an edge from the scope's node i, which fetches x, to its node j
 abbrev pub breaksAt : List ℕ → Trailer → Head → ℕ → ℕ → ℕ → Bool
-breaksAt f t h x i j = breaks (caseOf f t) (factOf f h) x (factOf f h .row i) (factOf f h .row j)
+breaksAt f trailer h x i j = breaks (caseOf f trailer) (factOf f h) x (factOf f h .row i) (factOf f h .row j)

@@ -12,7 +12,7 @@ use Rattle.evidence.specs.declared.Head.{Head}
 
 -- the scope of the fact that stands at p
 abbrev pub scopeAt : List ℕ → Trailer → ℕ → Loop
-scopeAt f t p = rangeOf (t .nodes) (loopAt f t) (factAt f p .scope)
+scopeAt f trailer p = rangeOf (trailer .nodes) (loopAt f trailer) (factAt f p .scope)
 
 -- the fact itself
 abbrev pub factOf : List ℕ → Head → Fact
@@ -23,19 +23,19 @@ abbrev pub nodesOf : Head → ℕ
 nodesOf h = suc (h .last) - h .first
 
 -- The head is that of the fact that stands at its place, and the scope is a range of nodes of the graph.
-pub record Stands (f : List ℕ) (t : Trailer) (h : Head) : Type 0 where
-  pub first : h .first ≡ scopeAt f t (h .place) .first
-  pub last : h .last ≡ scopeAt f t (h .place) .last
+pub record Stands (f : List ℕ) (trailer : Trailer) (h : Head) : Type 0 where
+  pub first : h .first ≡ scopeAt f trailer (h .place) .first
+  pub last : h .last ≡ scopeAt f trailer (h .place) .last
   pub block : h .block ≡ factOf f h .block
   pub limit : h .limit ≡ factOf f h .limit
-  pub home : h .home ≡ h .block % t .sets
+  pub home : h .home ≡ h .block % trailer .sets
   pub rises : h .first ≤ h .last
-  pub within : h .last < t .nodes
+  pub within : h .last < trailer .nodes
 
 -- Rule 15 is passed: its rows end before the trailer.
 pub record Whole (f : List ℕ) (h : Head) : Type 0 where
   pub room : rowPlace (h .place) (nodesOf h) ≤ endAt f
 
 -- Rule 16 is passed: its rows are sound.
-pub record SoundRows (f : List ℕ) (t : Trailer) (h : Head) : Type 0 where
-  pub sound : (j : ℕ) → j < nodesOf h → badRowAt (caseOf f t) (factOf f h) j ≡ false
+pub record SoundRows (f : List ℕ) (trailer : Trailer) (h : Head) : Type 0 where
+  pub sound : (j : ℕ) → j < nodesOf h → badRowAt (caseOf f trailer) (factOf f h) j ≡ false

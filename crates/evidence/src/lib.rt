@@ -38,25 +38,25 @@ pub fn nodes_of(h: Head) -> u16
     h.last + 1 - h.first
 }
 
-fn fetches(file: &[u8], t: Trailer, h: Head, j: u16) -> bool
-    requires { ⌜ Laid (now file) t ⌝ }
-    requires { ⌜ Stands (now file) t h ⌝ }
+fn fetches(file: &[u8], trailer: Trailer, h: Head, j: u16) -> bool
+    requires { ⌜ Laid (now file) trailer ⌝ }
+    requires { ⌜ Stands (now file) trailer h ⌝ }
     requires { ⌜ j < nodesOf h ⌝ }
-    ensures { λ r. ⌜ r ≡ Cases.fetches (Files.caseOf (now (file .entry)) t) (factOf (now (file .entry)) h) j ⌝ }
+    ensures { λ r. ⌜ r ≡ Cases.fetches (Files.caseOf (now (file .entry)) trailer) (factOf (now (file .entry)) h) j ⌝ }
 {
-    layout::node_at(file, t, h.first + j) == h.block
+    layout::node_at(file, trailer, h.first + j) == h.block
 }
 
 // 14: "no node of the scope fetches b"
-pub fn unfetched(file: &[u8], t: Trailer, h: Head) -> bool
-    requires { ⌜ Laid (now file) t ⌝ }
-    requires { ⌜ Stands (now file) t h ⌝ }
-    ensures { λ r. ⌜ r ≡ Facts.unfetched (Files.caseOf (now (file .entry)) t) (factOf (now (file .entry)) h) ⌝ }
+pub fn unfetched(file: &[u8], trailer: Trailer, h: Head) -> bool
+    requires { ⌜ Laid (now file) trailer ⌝ }
+    requires { ⌜ Stands (now file) trailer h ⌝ }
+    ensures { λ r. ⌜ r ≡ Facts.unfetched (Files.caseOf (now (file .entry)) trailer) (factOf (now (file .entry)) h) ⌝ }
 {
     let n = nodes_of(h);
     let mut j: u16 = 0;
     while j < n {
-        if fetches(file, t, h, j) {
+        if fetches(file, trailer, h, j) {
             return false;
         }
         j += 1;
@@ -64,30 +64,30 @@ pub fn unfetched(file: &[u8], t: Trailer, h: Head) -> bool
     true
 }
 
-fn bad_many(file: &[u8], t: Trailer, h: Head, j: u16) -> bool
-    requires { ⌜ Laid (now file) t ⌝ }
-    requires { ⌜ Stands (now file) t h ⌝ }
+fn bad_many(file: &[u8], trailer: Trailer, h: Head, j: u16) -> bool
+    requires { ⌜ Laid (now file) trailer ⌝ }
+    requires { ⌜ Stands (now file) trailer h ⌝ }
     requires { ⌜ Whole (now file) h ⌝ }
     requires { ⌜ j < nodesOf h ⌝ }
-    ensures { λ r. ⌜ r ≡ Facts.badManyAt (Files.caseOf (now (file .entry)) t) (factOf (now (file .entry)) h) j ⌝ }
+    ensures { λ r. ⌜ r ≡ Facts.badManyAt (Files.caseOf (now (file .entry)) trailer) (factOf (now (file .entry)) h) j ⌝ }
 {
-    if fetches(file, t, h, j) {
+    if fetches(file, trailer, h, j) {
         return layout::number_at(file, row_at(file, h, j)) == 8;
     }
     false
 }
 
 // 18: "a node that fetches b has row 8"
-pub fn bad_manys(file: &[u8], t: Trailer, h: Head) -> bool
-    requires { ⌜ Laid (now file) t ⌝ }
-    requires { ⌜ Stands (now file) t h ⌝ }
+pub fn bad_manys(file: &[u8], trailer: Trailer, h: Head) -> bool
+    requires { ⌜ Laid (now file) trailer ⌝ }
+    requires { ⌜ Stands (now file) trailer h ⌝ }
     requires { ⌜ Whole (now file) h ⌝ }
-    ensures { λ r. ⌜ r ≡ some (Facts.badManyAt (Files.caseOf (now (file .entry)) t) (factOf (now (file .entry)) h)) (nodesOf h) ⌝ }
+    ensures { λ r. ⌜ r ≡ some (Facts.badManyAt (Files.caseOf (now (file .entry)) trailer) (factOf (now (file .entry)) h)) (nodesOf h) ⌝ }
 {
     let n = nodes_of(h);
     let mut j: u16 = 0;
     while j < n {
-        if bad_many(file, t, h, j) {
+        if bad_many(file, trailer, h, j) {
             return true;
         }
         j += 1;
@@ -96,20 +96,20 @@ pub fn bad_manys(file: &[u8], t: Trailer, h: Head) -> bool
 }
 
 // 16 to 18, the evidence of fact i.
-pub fn evidence_rules(file: &[u8], t: Trailer, i: u16, h: Head) -> Verdict
-    requires { ⌜ Laid (now file) t ⌝ }
-    requires { ⌜ Shaped (Files.caseOf (now file) t) ⌝ }
-    requires { ⌜ Stands (now file) t h ⌝ }
+pub fn evidence_rules(file: &[u8], trailer: Trailer, i: u16, h: Head) -> Verdict
+    requires { ⌜ Laid (now file) trailer ⌝ }
+    requires { ⌜ Shaped (Files.caseOf (now file) trailer) ⌝ }
+    requires { ⌜ Stands (now file) trailer h ⌝ }
     requires { ⌜ Whole (now file) h ⌝ }
-    ensures { λ r. ⌜ r ≡ Verdicts.evidenceRules (Files.caseOf (now (file .entry)) t) i (factOf (now (file .entry)) h) Verdict.Accepted ⌝ }
+    ensures { λ r. ⌜ r ≡ Verdicts.evidenceRules (Files.caseOf (now (file .entry)) trailer) i (factOf (now (file .entry)) h) Verdict.Accepted ⌝ }
 {
-    if bad_rows(file, t, h) {
+    if bad_rows(file, trailer, h) {
         return Verdict::Refused(paper::refuse(16, i as usize));
     }
-    if bad_steps(file, t, h) {
+    if bad_steps(file, trailer, h) {
         return Verdict::Refused(paper::refuse(17, i as usize));
     }
-    if bad_manys(file, t, h) {
+    if bad_manys(file, trailer, h) {
         return Verdict::Refused(paper::refuse(18, i as usize));
     }
     Verdict::Accepted

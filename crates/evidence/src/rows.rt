@@ -24,21 +24,23 @@ pub fn row_at(file: &[u8], h: Head, j: u16) -> usize
 }
 
 // "strictly rising, each of b's set, none equal to b or none": one of the n blocks of the row at `at` is not so.
-fn bad_blocks(file: &[u8], t: Trailer, h: Head, at: usize, n: u16) -> bool
-    requires { ⌜ Laid (now file) t ⌝ }
-    requires { ⌜ Stands (now file) t h ⌝ }
+fn bad_blocks(file: &[u8], trailer: Trailer, h: Head, at: usize, n: u16) -> bool
+    requires { ⌜ Laid (now file) trailer ⌝ }
+    requires { ⌜ Stands (now file) trailer h ⌝ }
     requires { ⌜ SetAt (now file) at n ⌝ }
-    ensures { λ r. ⌜ r ≡ some (Facts.badSlot (Files.caseOf (now (file .entry)) t) (factOf (now (file .entry)) h) (Files.rowAt (now (file .entry)) at)) n ⌝ }
+    ensures { λ r. ⌜ r ≡ some (Facts.badSlot (Files.caseOf (now (file .entry)) trailer) (factOf (now (file .entry)) h) (Files.rowAt (now (file .entry)) at)) n ⌝ }
 {
     let mut low: u16 = 0;
-    let mut k: u16 = 0;
-    while k < n {
-        let x = layout::slot_at(file, at, k);
-        if (x == 65535) | ((x == h.block) | ((paper::home(x, t.sets) != h.home) | (x < low))) {
+    let mut i: u16 = 0;
+    while i < n {
+        let x = layout::slot_at(file, at, i);
+        if (x == 65535)
+            | ((x == h.block) | ((paper::home(x, trailer.sets) != h.home) | (x < low)))
+        {
             return true;
         }
         low = x + 1;
-        k += 1;
+        i += 1;
     }
     false
 }
@@ -49,22 +51,22 @@ fn bad_rest(file: &[u8], at: usize, n: u16) -> bool
     requires { ⌜ n < 8 ⌝ }
     ensures { λ r. ⌜ r ≡ some (unfree n (Files.rowAt (now (file .entry)) at)) 7 ⌝ }
 {
-    let mut k: u16 = n;
-    while k < 7 {
-        if layout::slot_at(file, at, k) != 65535 {
+    let mut i: u16 = n;
+    while i < 7 {
+        if layout::slot_at(file, at, i) != 65535 {
             return true;
         }
-        k += 1;
+        i += 1;
     }
     false
 }
 
-fn bad_row(file: &[u8], t: Trailer, h: Head, j: u16) -> bool
-    requires { ⌜ Laid (now file) t ⌝ }
-    requires { ⌜ Stands (now file) t h ⌝ }
+fn bad_row(file: &[u8], trailer: Trailer, h: Head, j: u16) -> bool
+    requires { ⌜ Laid (now file) trailer ⌝ }
+    requires { ⌜ Stands (now file) trailer h ⌝ }
     requires { ⌜ Whole (now file) h ⌝ }
     requires { ⌜ j < nodesOf h ⌝ }
-    ensures { λ r. ⌜ r ≡ Facts.badRowAt (Files.caseOf (now (file .entry)) t) (factOf (now (file .entry)) h) j ⌝ }
+    ensures { λ r. ⌜ r ≡ Facts.badRowAt (Files.caseOf (now (file .entry)) trailer) (factOf (now (file .entry)) h) j ⌝ }
 {
     let at = row_at(file, h, j);
     let n = layout::number_at(file, at);
@@ -77,23 +79,23 @@ fn bad_row(file: &[u8], t: Trailer, h: Head, j: u16) -> bool
     if h.limit <= n {
         return true;
     }
-    if bad_blocks(file, t, h, at, n) {
+    if bad_blocks(file, trailer, h, at, n) {
         return true;
     }
     bad_rest(file, at, n)
 }
 
 // 16: "a row not sound"
-pub fn bad_rows(file: &[u8], t: Trailer, h: Head) -> bool
-    requires { ⌜ Laid (now file) t ⌝ }
-    requires { ⌜ Stands (now file) t h ⌝ }
+pub fn bad_rows(file: &[u8], trailer: Trailer, h: Head) -> bool
+    requires { ⌜ Laid (now file) trailer ⌝ }
+    requires { ⌜ Stands (now file) trailer h ⌝ }
     requires { ⌜ Whole (now file) h ⌝ }
-    ensures { λ r. ⌜ r ≡ some (Facts.badRowAt (Files.caseOf (now (file .entry)) t) (factOf (now (file .entry)) h)) (nodesOf h) ⌝ }
+    ensures { λ r. ⌜ r ≡ some (Facts.badRowAt (Files.caseOf (now (file .entry)) trailer) (factOf (now (file .entry)) h)) (nodesOf h) ⌝ }
 {
     let n = nodes_of(h);
     let mut j: u16 = 0;
     while j < n {
-        if bad_row(file, t, h, j) {
+        if bad_row(file, trailer, h, j) {
             return true;
         }
         j += 1;

@@ -17,12 +17,12 @@ fn holds(file: &[u8], at: usize, n: u16, x: u16) -> bool
     requires { ⌜ SetAt (now file) at n ⌝ }
     ensures { λ r. ⌜ r ≡ Facts.holds (Files.rowAt (now (file .entry)) at) x ⌝ }
 {
-    let mut k: u16 = 0;
-    while k < n {
-        if layout::slot_at(file, at, k) == x {
+    let mut i: u16 = 0;
+    while i < n {
+        if layout::slot_at(file, at, i) == x {
             return true;
         }
-        k += 1;
+        i += 1;
     }
     false
 }
@@ -53,29 +53,29 @@ fn drops(file: &[u8], r: usize, n: u16, s: usize, m: u16) -> bool
 }
 
 // Node u's block x is not none, of b's set, and the set at s lacks it.
-fn lost(file: &[u8], t: Trailer, h: Head, x: u16, s: usize, m: u16) -> bool
-    requires { ⌜ Laid (now file) t ⌝ }
-    requires { ⌜ Stands (now file) t h ⌝ }
+fn lost(file: &[u8], trailer: Trailer, h: Head, x: u16, s: usize, m: u16) -> bool
+    requires { ⌜ Laid (now file) trailer ⌝ }
+    requires { ⌜ Stands (now file) trailer h ⌝ }
     requires { ⌜ SetAt (now file) s m ⌝ }
-    ensures { λ b. ⌜ b ≡ forgets (Files.caseOf (now (file .entry)) t) (factOf (now (file .entry)) h) x (Files.rowAt (now (file .entry)) s) ⌝ }
+    ensures { λ b. ⌜ b ≡ forgets (Files.caseOf (now (file .entry)) trailer) (factOf (now (file .entry)) h) x (Files.rowAt (now (file .entry)) s) ⌝ }
 {
     if x == 65535 {
         return false;
     }
-    if paper::home(x, t.sets) != h.home {
+    if paper::home(x, trailer.sets) != h.home {
         return false;
     }
     !holds(file, s, m, x)
 }
 
 // 17, for an edge from the scope's node i, which fetches x, to its node j.
-fn breaks(file: &[u8], t: Trailer, h: Head, x: u16, i: u16, j: u16) -> bool
-    requires { ⌜ Laid (now file) t ⌝ }
-    requires { ⌜ Stands (now file) t h ⌝ }
+fn breaks(file: &[u8], trailer: Trailer, h: Head, x: u16, i: u16, j: u16) -> bool
+    requires { ⌜ Laid (now file) trailer ⌝ }
+    requires { ⌜ Stands (now file) trailer h ⌝ }
     requires { ⌜ Whole (now file) h ⌝ }
-    requires { ⌜ SoundRows (now file) t h ⌝ }
+    requires { ⌜ SoundRows (now file) trailer h ⌝ }
     requires { ⌜ (i < nodesOf h) × (j < nodesOf h) ⌝ }
-    ensures { λ b. ⌜ b ≡ breaksAt (now (file .entry)) t h x i j ⌝ }
+    ensures { λ b. ⌜ b ≡ breaksAt (now (file .entry)) trailer h x i j ⌝ }
 {
     let s = row_at(file, h, j);
     let m = layout::number_at(file, s);
@@ -93,23 +93,23 @@ fn breaks(file: &[u8], t: Trailer, h: Head, x: u16, i: u16, j: u16) -> bool
     if 8 <= m {
         return m != 8;
     }
-    if lost(file, t, h, x, s, m) {
+    if lost(file, trailer, h, x, s, m) {
         return true;
     }
     drops(file, r, n, s, m)
 }
 
 // The first edge from node v or a later one: edges rise by from.
-fn first_edge(file: &[u8], t: Trailer, v: u16) -> u16
-    requires { ⌜ Laid (now file) t ⌝ }
-    requires { ⌜ Shaped (Files.caseOf (now file) t) ⌝ }
-    ensures { λ r. ⌜ Splits (now (file .entry)) t v r r ⌝ }
+fn first_edge(file: &[u8], trailer: Trailer, v: u16) -> u16
+    requires { ⌜ Laid (now file) trailer ⌝ }
+    requires { ⌜ Shaped (Files.caseOf (now file) trailer) ⌝ }
+    ensures { λ r. ⌜ Splits (now (file .entry)) trailer v r r ⌝ }
 {
     let mut low: u16 = 0;
-    let mut high: u16 = t.edges;
+    let mut high: u16 = trailer.edges;
     while low < high {
         let middle = (low + high) / 2;
-        if layout::from_at(file, t, middle) < v {
+        if layout::from_at(file, trailer, middle) < v {
             low = middle + 1;
         } else {
             high = middle;
@@ -119,44 +119,44 @@ fn first_edge(file: &[u8], t: Trailer, v: u16) -> u16
 }
 
 // 17, for edge i, which comes from the scope's node u.
-fn bad_step(file: &[u8], t: Trailer, h: Head, i: u16, u: u16) -> bool
-    requires { ⌜ Laid (now file) t ⌝ }
-    requires { ⌜ Stands (now file) t h ⌝ }
+fn bad_step(file: &[u8], trailer: Trailer, h: Head, i: u16, u: u16) -> bool
+    requires { ⌜ Laid (now file) trailer ⌝ }
+    requires { ⌜ Stands (now file) trailer h ⌝ }
     requires { ⌜ Whole (now file) h ⌝ }
-    requires { ⌜ SoundRows (now file) t h ⌝ }
-    requires { ⌜ From (now file) t h i u ⌝ }
-    ensures { λ b. ⌜ b ≡ Facts.badStepAt (Files.caseOf (now (file .entry)) t) (factOf (now (file .entry)) h) i ⌝ }
+    requires { ⌜ SoundRows (now file) trailer h ⌝ }
+    requires { ⌜ From (now file) trailer h i u ⌝ }
+    ensures { λ b. ⌜ b ≡ Facts.badStepAt (Files.caseOf (now (file .entry)) trailer) (factOf (now (file .entry)) h) i ⌝ }
 {
-    let v = layout::to_at(file, t, i);
+    let v = layout::to_at(file, trailer, i);
     if (v < h.first) | (h.last < v) {
         return false;
     }
     breaks(
         file,
-        t,
+        trailer,
         h,
-        layout::node_at(file, t, u),
+        layout::node_at(file, trailer, u),
         u - h.first,
         v - h.first,
     )
 }
 
 // 17: "an edge's rule broken". The edges from nodes of the scope stand together.
-pub fn bad_steps(file: &[u8], t: Trailer, h: Head) -> bool
-    requires { ⌜ Laid (now file) t ⌝ }
-    requires { ⌜ Shaped (Files.caseOf (now file) t) ⌝ }
-    requires { ⌜ Stands (now file) t h ⌝ }
+pub fn bad_steps(file: &[u8], trailer: Trailer, h: Head) -> bool
+    requires { ⌜ Laid (now file) trailer ⌝ }
+    requires { ⌜ Shaped (Files.caseOf (now file) trailer) ⌝ }
+    requires { ⌜ Stands (now file) trailer h ⌝ }
     requires { ⌜ Whole (now file) h ⌝ }
-    requires { ⌜ SoundRows (now file) t h ⌝ }
-    ensures { λ b. ⌜ b ≡ some (Facts.badStepAt (Files.caseOf (now (file .entry)) t) (factOf (now (file .entry)) h)) (t .edges) ⌝ }
+    requires { ⌜ SoundRows (now file) trailer h ⌝ }
+    ensures { λ b. ⌜ b ≡ some (Facts.badStepAt (Files.caseOf (now (file .entry)) trailer) (factOf (now (file .entry)) h)) (trailer .edges) ⌝ }
 {
-    let mut i = first_edge(file, t, h.first);
-    while i < t.edges {
-        let u = layout::from_at(file, t, i);
+    let mut i = first_edge(file, trailer, h.first);
+    while i < trailer.edges {
+        let u = layout::from_at(file, trailer, i);
         if h.last < u {
             return false;
         }
-        if bad_step(file, t, h, i, u) {
+        if bad_step(file, trailer, h, i, u) {
             return true;
         }
         i += 1;

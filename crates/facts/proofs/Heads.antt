@@ -25,30 +25,30 @@ use Rattle.evidence.specs.Stands.{scopeAt, Stands}
 use Rattle.facts.specs.declared.Names.{Names}
 use Rattle.facts.specs.Turns.{namesAt}
 
-module _ (f : List ℕ) (t : Trailer) (p : ℕ) (n : Names) (x : n ≡ namesAt f p) where
+module _ (f : List ℕ) (trailer : Trailer) (p : ℕ) (n : Names) (x : n ≡ namesAt f p) where
   -- 12 at the fact's place
-  pub head-is : wrongHead (t .loops) (t .ways) (n .scope) (n .block) (n .limit) ≡ badHead (caseOf f t) (factAt f p)
+  pub head-is : wrongHead (trailer .loops) (trailer .ways) (n .scope) (n .block) (n .limit) ≡ badHead (caseOf f trailer) (factAt f p)
   unfolding badHead caseOf
   head-is = rw x refl
 
-  module _ (s : Loop) (a : s ≡ rangeOf (t .nodes) (loopAt f t) (n .scope)) where
-    scope-is : s ≡ scopeAt f t p
-    scope-is = a ∙ ap (λ (n : Names). rangeOf (t .nodes) (loopAt f t) (n .scope)) x
+  module _ (s : Loop) (a : s ≡ rangeOf (trailer .nodes) (loopAt f trailer) (n .scope)) where
+    scope-is : s ≡ scopeAt f trailer p
+    scope-is = a ∙ ap (λ (n : Names). rangeOf (trailer .nodes) (loopAt f trailer) (n .scope)) x
 
     -- 13 at the fact's place
-    pub order-is : (previous : Previous) → wrongOrder previous (n .block) (s .first) ≡ badOrder (caseOf f t) previous (factAt f p)
+    pub order-is : (previous : Previous) → wrongOrder previous (n .block) (s .first) ≡ badOrder (caseOf f trailer) previous (factAt f p)
     unfolding badOrder caseOf
     order-is previous = rw (scope-is, x) refl
 
-  module _ (e : badHead (caseOf f t) (factAt f p) ≡ false) where
+  module _ (e : badHead (caseOf f trailer) (factAt f p) ≡ false) where
     -- a fact that passes 12 names a loop or the whole graph
-    pub named : n .scope ≢ none → n .scope < t .loops
+    pub named : n .scope ≢ none → n .scope < trailer .loops
     unfolding caseOf
     named q =
         let s : n .scope ≡ factAt f p .scope = ap (λ (n : Names). n .scope) x in
-        omega (arith, head-sound (caseOf f t) (factAt f p) e .scope (λ k. q (s ∙ k)))
+        omega (arith, head-sound (caseOf f trailer) (factAt f p) e .scope (λ k. q (s ∙ k)))
 
-    fits-at : Laid f t → Shaped (caseOf f t) → let s = rangeOf (t .nodes) (loopAt f t) (n .scope) in (s .first ≤ s .last) × (s .last < t .nodes)
+    fits-at : Laid f trailer → Shaped (caseOf f trailer) → let s = rangeOf (trailer .nodes) (loopAt f trailer) (n .scope) in (s .first ≤ s .last) × (s .last < trailer .nodes)
     unfolding rangeOf caseOf
     fits-at laid shape =
         elim (ℕ-discrete (n .scope) none) [
@@ -57,10 +57,10 @@ module _ (f : List ℕ) (t : Trailer) (p : ℕ) (n : Names) (x : n ≡ namesAt f
         ]
 
     pub stands :
-        (s : Loop) → s ≡ rangeOf (t .nodes) (loopAt f t) (n .scope) → Laid f t → Shaped (caseOf f t) → (h : ℕ) → h ≡ n .block % t .sets →
-        Stands f t (record { place = p; first = s .first; last = s .last; block = n .block; limit = n .limit; home = h })
+        (s : Loop) → s ≡ rangeOf (trailer .nodes) (loopAt f trailer) (n .scope) → Laid f trailer → Shaped (caseOf f trailer) → (h : ℕ) → h ≡ n .block % trailer .sets →
+        Stands f trailer (record { place = p; first = s .first; last = s .last; block = n .block; limit = n .limit; home = h })
     stands s a laid shape h o =
-        let k = subst (λ (s : Loop). (s .first ≤ s .last) × (s .last < t .nodes)) (sym a) (fits-at laid shape) in
+        let k = subst (λ (s : Loop). (s .first ≤ s .last) × (s .last < trailer .nodes)) (sym a) (fits-at laid shape) in
         record {
           first = ap (λ (s : Loop). s .first) (scope-is s a);
           last = ap (λ (s : Loop). s .last) (scope-is s a);
@@ -73,8 +73,8 @@ module _ (f : List ℕ) (t : Trailer) (p : ℕ) (n : Names) (x : n ≡ namesAt f
 
 -- the turn's chain, by the outcomes a, b and c of its first tests
 pub turn-is :
-    (f : List ℕ) (t : Trailer) (i : ℕ) (previous : Previous) (p : ℕ) (a b c : Bool) (v : Verdict) →
-    a ≡ ltb (endAt f) (p + 6) → b ≡ badHead (caseOf f t) (factAt f p) → c ≡ badOrder (caseOf f t) previous (factAt f p) → v ≡ bodyRules f t i p Accepted →
-    rule 11 i a (rule 12 i b (rule 13 i c v)) ≡ turnRules f t i previous p Accepted
+    (f : List ℕ) (trailer : Trailer) (i : ℕ) (previous : Previous) (p : ℕ) (a b c : Bool) (v : Verdict) →
+    a ≡ ltb (endAt f) (p + 6) → b ≡ badHead (caseOf f trailer) (factAt f p) → c ≡ badOrder (caseOf f trailer) previous (factAt f p) → v ≡ bodyRules f trailer i p Accepted →
+    rule 11 i a (rule 12 i b (rule 13 i c v)) ≡ turnRules f trailer i previous p Accepted
 unfolding turnRules headRule orderRule
-turn-is f t i previous p a b c v x y z o = cc
+turn-is f trailer i previous p a b c v x y z o = cc

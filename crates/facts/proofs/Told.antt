@@ -12,13 +12,13 @@ use Rattle.facts.specs.declared.Turn.{Turn}
 use Rattle.facts.specs.declared.Turn.the-variants as Turns
 use Rattle.facts.specs.Turns.{Next, Told}
 
-module _ (f : List ℕ) (t : Trailer) (p : ℕ) (chain : Verdict → Verdict) where
-  pub told-refused : (r : Refusal) → Verdicts.Refused r ≡ chain Verdicts.Accepted → Told f t p chain (Turns.Refused r)
+module _ (f : List ℕ) (trailer : Trailer) (p : ℕ) (chain : Verdict → Verdict) where
+  pub told-refused : (r : Refusal) → Verdicts.Refused r ≡ chain Verdicts.Accepted → Told f trailer p chain (Turns.Refused r)
   told-refused r e = record { verdict = e; next = λ k q. let z : _≡_ {A = ℕ} 0 1 = cc in absurd (omega arith) }
 
-  pub told-kept : (k : Kept) → Verdicts.Accepted ≡ chain Verdicts.Accepted → Next f t p k → Told f t p chain (Turns.Kept k)
-  told-kept k e n = record { verdict = e; next = λ j q. let z : k ≡ j = cc in subst (Next f t p) z n }
+  pub told-kept : (k : Kept) → Verdicts.Accepted ≡ chain Verdicts.Accepted → Next f trailer p k → Told f trailer p chain (Turns.Kept k)
+  told-kept k e n = record { verdict = e; next = λ j q. let z : k ≡ j = cc in subst (Next f trailer p) z n }
 
   -- a chain that goes on where the other begins
-  pub told-on : (other : Verdict → Verdict) (r : Turn) → other Verdicts.Accepted ≡ chain Verdicts.Accepted → Told f t p other r → Told f t p chain r
+  pub told-on : (other : Verdict → Verdict) (r : Turn) → other Verdicts.Accepted ≡ chain Verdicts.Accepted → Told f trailer p other r → Told f trailer p chain r
   told-on other r e w = record { verdict = w .verdict ∙ e; next = w .next }

@@ -23,27 +23,27 @@ use Rattle.facts.specs.declared.Turn.{Turn}
 use Rattle.facts.specs.declared.Turn.the-variants as Turns
 use Rattle.facts.specs.Turns.{verdictOf, Told}
 
-module _ (f : List ℕ) (t : Trailer) where
+module _ (f : List ℕ) (trailer : Trailer) where
   -- 19: "bytes left between last fact and trailer"
   abbrev left : Verdict
-  left = rule 19 0 (ltb (factPlace f t (t .facts)) (endAt f)) Accepted
+  left = rule 19 0 (ltb (factPlace f trailer (trailer .facts)) (endAt f)) Accepted
 
   -- It is the turn of fact i, which stands at p after the previous one: what is still to be judged decides.
   pub record Walked (i : ℕ) (previous : Previous) (p : ℕ) : Type 0 where
-    pub within : i ≤ t .facts
-    pub here : p ≡ factPlace f t i
+    pub within : i ≤ trailer .facts
+    pub here : p ≡ factPlace f trailer i
     pub room : p ≤ endAt f
-    pub rest : factRules f t Accepted ≡ turnsFrom f t (t .facts - i) i previous p left
+    pub rest : factRules f trailer Accepted ≡ turnsFrom f trailer (trailer .facts - i) i previous p left
 
-  pub walk-start : Laid f t → (p : ℕ) → p ≡ factsAt t → Walked 0 nonePrevious p
+  pub walk-start : Laid f trailer → (p : ℕ) → p ≡ factsAt trailer → Walked 0 nonePrevious p
   unfolding factRules factPlace
   walk-start laid p e =
-      let z : t .facts - 0 ≡ t .facts = omega arith in
+      let z : trailer .facts - 0 ≡ trailer .facts = omega arith in
       record { within = omega arith; here = e; room = omega (arith, laid .room); rest = rw (z, e) refl }
 
   module _ (i : ℕ) (previous : Previous) (p : ℕ) (w : Walked i previous p) where
-    module _ (h : i < t .facts) (r : Turn) (told : Told f t p (turnRules f t i previous p) r) where
-      one-more : t .facts - i ≡ suc (t .facts - (i + 1))
+    module _ (h : i < trailer .facts) (r : Turn) (told : Told f trailer p (turnRules f trailer i previous p) r) where
+      one-more : trailer .facts - i ≡ suc (trailer .facts - (i + 1))
       one-more = omega arith
 
       pub walk-on : (k : Kept) → r ≡ Turns.Kept k → Walked (i + 1) (k .previous) (k .end)
@@ -52,33 +52,33 @@ module _ (f : List ℕ) (t : Trailer) where
           let n = told .next k e in
           record {
             within = omega arith;
-            here = rw (add-one i) (n .end-is ∙ ap (factEnd f t) (w .here));
+            here = rw (add-one i) (n .end-is ∙ ap (factEnd f trailer) (w .here));
             room = n .room;
             rest =
                 w .rest
-                ∙ ap (λ m. turnsFrom f t m i previous p left) one-more
-                ∙ turns-on f t (t .facts - (i + 1)) i previous p left (verdictOf r) (told .verdict) (ap verdictOf e)
+                ∙ ap (λ m. turnsFrom f trailer m i previous p left) one-more
+                ∙ turns-on f trailer (trailer .facts - (i + 1)) i previous p left (verdictOf r) (told .verdict) (ap verdictOf e)
                 ∙ rw (n .previous-is, n .end-is, add-one i) refl;
           }
 
-      pub walk-stops : (x : Refusal) → r ≡ Turns.Refused x → Refused x ≡ factRules f t Accepted
+      pub walk-stops : (x : Refusal) → r ≡ Turns.Refused x → Refused x ≡ factRules f trailer Accepted
       walk-stops x e =
           sym
           (w .rest
-          ∙ ap (λ m. turnsFrom f t m i previous p left) one-more
-          ∙ turns-stop f t (t .facts - (i + 1)) i previous p left (verdictOf r) (told .verdict) x (ap verdictOf e))
+          ∙ ap (λ m. turnsFrom f trailer m i previous p left) one-more
+          ∙ turns-stop f trailer (trailer .facts - (i + 1)) i previous p left (verdictOf r) (told .verdict) x (ap verdictOf e))
 
-    module _ (h : t .facts ≤ i) where
-      ends : factRules f t Accepted ≡ rule 19 0 (ltb p (endAt f)) Accepted
+    module _ (h : trailer .facts ≤ i) where
+      ends : factRules f trailer Accepted ≡ rule 19 0 (ltb p (endAt f)) Accepted
       unfolding turnsFrom
       ends =
-          let z : t .facts - i ≡ 0 = omega arith in
-          let q : t .facts ≡ i = omega (arith, w .within) in
-          let k : factPlace f t (t .facts) ≡ p = ap (factPlace f t) q ∙ sym (w .here) in
+          let z : trailer .facts - i ≡ 0 = omega arith in
+          let q : trailer .facts ≡ i = omega (arith, w .within) in
+          let k : factPlace f trailer (trailer .facts) ≡ p = ap (factPlace f trailer) q ∙ sym (w .here) in
           w .rest ∙ rw (z, k) refl
 
-      pub walk-left : (x : Refusal) → p < endAt f → x ≡ refuse 19 0 → Refused x ≡ factRules f t Accepted
+      pub walk-left : (x : Refusal) → p < endAt f → x ≡ refuse 19 0 → Refused x ≡ factRules f trailer Accepted
       walk-left x l e = sym (ends ∙ rw (lt-ltb p (endAt f) l, e) refl)
 
-      pub walk-done : endAt f ≤ p → Accepted ≡ factRules f t Accepted
+      pub walk-done : endAt f ≤ p → Accepted ≡ factRules f trailer Accepted
       walk-done l = sym (ends ∙ rw (le-ltb p (endAt f) l) refl)

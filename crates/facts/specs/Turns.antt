@@ -17,16 +17,16 @@ abbrev pub namesAt : List ℕ → ℕ → Names
 namesAt f p = record { scope = factAt f p .scope; block = factAt f p .block; limit = factAt f p .limit }
 
 abbrev pub verdictOf : Turn → Verdict
-verdictOf (Turns.Kept k) = Verdicts.Accepted
+verdictOf (Turns.Kept kept) = Verdicts.Accepted
 verdictOf (Turns.Refused r) = Verdicts.Refused r
 
 -- After the fact that stands at p: what it is to the next one, and where that one stands.
-pub record Next (f : List ℕ) (t : Trailer) (p : ℕ) (k : Kept) : Type 0 where
-  pub previous-is : k .previous ≡ previousOf (caseOf f t) (factAt f p)
-  pub end-is : k .end ≡ factEnd f t p
-  pub room : k .end ≤ endAt f
+pub record Next (f : List ℕ) (trailer : Trailer) (p : ℕ) (kept : Kept) : Type 0 where
+  pub previous-is : kept .previous ≡ previousOf (caseOf f trailer) (factAt f p)
+  pub end-is : kept .end ≡ factEnd f trailer p
+  pub room : kept .end ≤ endAt f
 
 -- The fact that stands at p is judged by the chain: it is refused as the chain refuses, or it is kept.
-pub record Told (f : List ℕ) (t : Trailer) (p : ℕ) (chain : Verdict → Verdict) (r : Turn) : Type 0 where
+pub record Told (f : List ℕ) (trailer : Trailer) (p : ℕ) (chain : Verdict → Verdict) (r : Turn) : Type 0 where
   pub verdict : verdictOf r ≡ chain Verdicts.Accepted
-  pub next : (k : Kept) → r ≡ Turns.Kept k → Next f t p k
+  pub next : (kept : Kept) → r ≡ Turns.Kept kept → Next f trailer p kept

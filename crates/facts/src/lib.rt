@@ -34,16 +34,16 @@ pub enum Turn {
 }
 
 // From p on, fewer than n bytes are left before the trailer.
-pub fn short_of(file: &[u8], t: Trailer, p: usize, n: usize) -> bool
-    requires { ⌜ Laid (now file) t ⌝ }
+pub fn short_of(file: &[u8], trailer: Trailer, p: usize, n: usize) -> bool
+    requires { ⌜ Laid (now file) trailer ⌝ }
     requires { ⌜ p ≤ endAt (now file) ⌝ }
     ensures { λ r. ⌜ r ≡ ltb (endAt (now (file .entry))) (p + n) ⌝ }
 {
     layout::end_of(file) - p < n
 }
 
-pub fn names_at(file: &[u8], t: Trailer, p: usize) -> Names
-    requires { ⌜ Laid (now file) t ⌝ }
+pub fn names_at(file: &[u8], trailer: Trailer, p: usize) -> Names
+    requires { ⌜ Laid (now file) trailer ⌝ }
     requires { ⌜ headEnd p ≤ endAt (now file) ⌝ }
     ensures { λ r. ⌜ r ≡ namesAt (now (file .entry)) p ⌝ }
 {
@@ -55,10 +55,10 @@ pub fn names_at(file: &[u8], t: Trailer, p: usize) -> Names
 }
 
 // 12: "its loop number, block or l out of range"
-pub fn wrong_head(t: Trailer, w: u16, b: u16, l: u16) -> bool
-    ensures { λ r. ⌜ r ≡ Facts.wrongHead (t .loops) (t .ways) w b l ⌝ }
+pub fn wrong_head(trailer: Trailer, w: u16, b: u16, l: u16) -> bool
+    ensures { λ r. ⌜ r ≡ Facts.wrongHead (trailer .loops) (trailer .ways) w b l ⌝ }
 {
-    ((t.loops <= w) & (w != 65535)) | ((b == 65535) | ((l < 1) | ((t.ways as u16) < l)))
+    ((trailer.loops <= w) & (w != 65535)) | ((b == 65535) | ((l < 1) | ((trailer.ways as u16) < l)))
 }
 
 // 13: "block below the previous fact's, or equal and its scope starts at or before the previous scope's last node"
@@ -69,22 +69,22 @@ pub fn wrong_order(previous: Previous, b: u16, first: u16) -> bool
 }
 
 // 14 to 18, for fact i, which is the one at hand and whose head is there.
-fn weigh(file: &[u8], t: Trailer, i: u16, h: Head) -> Turn
-    requires { ⌜ Laid (now file) t ⌝ }
-    requires { ⌜ Shaped (caseOf (now file) t) ⌝ }
-    requires { ⌜ Stands (now file) t h ⌝ }
+fn weigh(file: &[u8], trailer: Trailer, i: u16, h: Head) -> Turn
+    requires { ⌜ Laid (now file) trailer ⌝ }
+    requires { ⌜ Shaped (caseOf (now file) trailer) ⌝ }
+    requires { ⌜ Stands (now file) trailer h ⌝ }
     requires { ⌜ headEnd (h .place) ≤ endAt (now file) ⌝ }
-    ensures { λ r. ⌜ Told (now (file .entry)) t (h .place) (Verdicts.bodyRules (now (file .entry)) t i (h .place)) r ⌝ }
+    ensures { λ r. ⌜ Told (now (file .entry)) trailer (h .place) (Verdicts.bodyRules (now (file .entry)) trailer i (h .place)) r ⌝ }
 {
-    if evidence::unfetched(file, t, h) {
+    if evidence::unfetched(file, trailer, h) {
         return Turn::Refused(paper::refuse(14, i as usize));
     }
     let begin = h.place + HEAD_SIZE;
     let rows = layout::rows_size(evidence::nodes_of(h));
-    if short_of(file, t, begin, rows) {
+    if short_of(file, trailer, begin, rows) {
         return Turn::Refused(paper::refuse(15, i as usize));
     }
-    let evidence = evidence::evidence_rules(file, t, i, h);
+    let evidence = evidence::evidence_rules(file, trailer, i, h);
     match evidence {
         Verdict::Accepted => Turn::Kept(Kept {
             previous: Previous {
@@ -99,27 +99,27 @@ fn weigh(file: &[u8], t: Trailer, i: u16, h: Head) -> Turn
 }
 
 // The turn of fact i, which stands at p, after the previous one.
-pub fn turn_of(file: &[u8], t: Trailer, i: u16, previous: Previous, p: usize) -> Turn
-    requires { ⌜ Laid (now file) t ⌝ }
-    requires { ⌜ Shaped (caseOf (now file) t) ⌝ }
+pub fn turn_of(file: &[u8], trailer: Trailer, i: u16, previous: Previous, p: usize) -> Turn
+    requires { ⌜ Laid (now file) trailer ⌝ }
+    requires { ⌜ Shaped (caseOf (now file) trailer) ⌝ }
     requires { ⌜ p ≤ endAt (now file) ⌝ }
-    ensures { λ r. ⌜ Told (now (file .entry)) t p (Verdicts.turnRules (now (file .entry)) t i previous p) r ⌝ }
+    ensures { λ r. ⌜ Told (now (file .entry)) trailer p (Verdicts.turnRules (now (file .entry)) trailer i previous p) r ⌝ }
 {
-    if short_of(file, t, p, HEAD_SIZE) {
+    if short_of(file, trailer, p, HEAD_SIZE) {
         return Turn::Refused(paper::refuse(11, i as usize));
     }
-    let n = names_at(file, t, p);
-    if wrong_head(t, n.scope, n.block, n.limit) {
+    let n = names_at(file, trailer, p);
+    if wrong_head(trailer, n.scope, n.block, n.limit) {
         return Turn::Refused(paper::refuse(12, i as usize));
     }
-    let scope = layout::range_at(file, t, n.scope);
+    let scope = layout::range_at(file, trailer, n.scope);
     if wrong_order(previous, n.block, scope.first) {
         return Turn::Refused(paper::refuse(13, i as usize));
     }
-    let home = paper::home(n.block, t.sets);
+    let home = paper::home(n.block, trailer.sets);
     weigh(
         file,
-        t,
+        trailer,
         i,
         Head {
             place: p,
@@ -133,25 +133,25 @@ pub fn turn_of(file: &[u8], t: Trailer, i: u16, previous: Previous, p: usize) ->
 }
 
 // "then for each fact in turn 11 to 18; then 19"
-pub fn fact_rules(file: &[u8], t: Trailer) -> Verdict
-    requires { ⌜ Laid (now file) t ⌝ }
-    requires { ⌜ Shaped (caseOf (now file) t) ⌝ }
-    ensures { λ r. ⌜ r ≡ Verdicts.factRules (now (file .entry)) t Verdict.Accepted ⌝ }
+pub fn fact_rules(file: &[u8], trailer: Trailer) -> Verdict
+    requires { ⌜ Laid (now file) trailer ⌝ }
+    requires { ⌜ Shaped (caseOf (now file) trailer) ⌝ }
+    ensures { λ r. ⌜ r ≡ Verdicts.factRules (now (file .entry)) trailer Verdict.Accepted ⌝ }
 {
-    let mut p: usize = layout::facts_at(t);
+    let mut p: usize = layout::facts_at(trailer);
     let mut previous = Previous {
         any: false,
         block: 0,
         last: 0,
     };
     let mut i: u16 = 0;
-    while i < t.facts {
-        let r = turn_of(file, t, i, previous, p);
+    while i < trailer.facts {
+        let r = turn_of(file, trailer, i, previous, p);
         match r {
             Turn::Refused(x) => return Verdict::Refused(x),
-            Turn::Kept(k) => {
-                previous = k.previous;
-                p = k.end;
+            Turn::Kept(kept) => {
+                previous = kept.previous;
+                p = kept.end;
                 i += 1;
             }
         }

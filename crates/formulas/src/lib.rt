@@ -74,12 +74,12 @@ pub fn bound_of(policy: u8, k: u64, l: u64, e: u64, n: u64) -> u64
 }
 
 // "floor(k·M(l)/(k-l+1))"
-pub fn floor_of(t: Trailer, l: u64, m: u64) -> u64
-    requires { ⌜ l ≤ t .ways ⌝ }
-    requires { ⌜ t .ways ≤ 8 ⌝ }
+pub fn floor_of(trailer: Trailer, l: u64, m: u64) -> u64
+    requires { ⌜ l ≤ trailer .ways ⌝ }
+    requires { ⌜ trailer .ways ≤ 8 ⌝ }
     requires { ⌜ m ≤ Largest.largestM ⌝ }
-    ensures { λ r. ⌜ r ≡ Bounds.floorOf (t .ways) l m ⌝ }
+    ensures { λ r. ⌜ r ≡ Bounds.floorOf (trailer .ways) l m ⌝ }
 {
-    let k = t.ways as u64;
+    let k = trailer.ways as u64;
     k * m / (k + 1 - l)
 }

@@ -65,20 +65,20 @@ module _ (e : Case) (w : Shaped e) where
       go (fails k) ih = marked-out (marks e 10) 1 v n (λ p. k (p .0, omega (arith, p .1))) ∙ ih ∙ ap shown (sym (count-out e v n k))
 
 -- the table by which rule 10 is tested
-module _ (f : List ℕ) (t : Trailer) (w : Shaped (caseOf f t)) (l : List ℕ)
-    (h : Holds (λ v. markedTo (marks (caseOf f t) 10) 1 v (t .loops)) (t .nodes) l) where
-  shows : (v : ℕ) → v < t .nodes → getD l v 0 ≡ shown (count (caseOf f t) v)
+module _ (f : List ℕ) (trailer : Trailer) (w : Shaped (caseOf f trailer)) (l : List ℕ)
+    (h : Holds (λ v. markedTo (marks (caseOf f trailer) 10) 1 v (trailer .loops)) (trailer .nodes) l) where
+  shows : (v : ℕ) → v < trailer .nodes → getD l v 0 ≡ shown (count (caseOf f trailer) v)
   unfolding caseOf countTo count
-  shows v q = h .at v q ∙ count-marks (caseOf f t) w v (t .loops) (omega arith)
+  shows v q = h .at v q ∙ count-marks (caseOf f trailer) w v (trailer .loops) (omega arith)
 
-  pub least-count : (i : ℕ) → i ≡ least (λ v. eqb (getD l v 0) 0) (t .nodes) → i ≡ least (badCount (caseOf f t)) (t .nodes)
-  least-count i p = p ∙ least-same _ _ (t .nodes) (λ v q. rw (shows v q) (count-test (caseOf f t) w v))
+  pub least-count : (i : ℕ) → i ≡ least (λ v. eqb (getD l v 0) 0) (trailer .nodes) → i ≡ least (badCount (caseOf f trailer)) (trailer .nodes)
+  least-count i p = p ∙ least-same _ _ (trailer .nodes) (λ v q. rw (shows v q) (count-test (caseOf f trailer) w v))
 
-  pub all-counted : (i : ℕ) → i ≡ least (badCount (caseOf f t)) (t .nodes) → t .nodes ≤ i → Counted f t l
+  pub all-counted : (i : ℕ) → i ≡ least (badCount (caseOf f trailer)) (trailer .nodes) → trailer .nodes ≤ i → Counted f trailer l
   all-counted i p q =
       record {
         room = h .room;
         at = λ v r.
-            let n = says-false (count-says (caseOf f t) v) .0 (none-some _ _ (keeps _ _ i p q) v r) in
-            shows v r ∙ shown-small (count (caseOf f t) v) (omega arith);
+            let n = says-false (count-says (caseOf f trailer) v) .0 (none-some _ _ (keeps _ _ i p q) v r) in
+            shows v r ∙ shown-small (count (caseOf f trailer) v) (omega arith);
       }

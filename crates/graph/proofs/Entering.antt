@@ -78,4 +78,4 @@ module _ (e : Case) (w : Shaped e) (i : ℕ) where
   -- edge i, from u to v, by the table
   pub edge-at : (rule : ℕ) → rule < 10 → (table : List ℕ) (u v x : ℕ) → Holds (λ y. markedTo (marks e rule) 0 y (e .loops)) (e .nodes) table →
       u ≡ e .from i → v ≡ e .to i → v < e .nodes → x ≡ getD table v 0 → breaks rule u v x ≡ edgeRule e rule i
-  edge-at rule h table u v x t from to l at = rw (at, t .at v l, from, to) (edge-test rule h)
+  edge-at rule h table u v x trailer from to l at = rw (at, trailer .at v l, from, to) (edge-test rule h)

@@ -45,6 +45,6 @@ module _ {old new : List ℕ} {a z x : ℕ} (w : Filled old new a z x) where
 
 -- the loop over the loops has come to its end
 pub holds-end : (g : ℕ → ℕ → ℕ) (m n j : ℕ) (l : List ℕ) → Holds (λ v. g v j) m l → j ≤ n → n ≤ j → Holds (λ v. g v n) m l
-holds-end g m n j l t p q =
+holds-end g m n j l trailer p q =
     let e : n ≡ j = omega arith in
-    rw e t
+    rw e trailer

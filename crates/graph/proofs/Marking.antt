@@ -46,11 +46,11 @@ module _ (m : ℕ → Mark) (start : ℕ) where
   -- what writing mark j does to the table
   pub marked-step : (n j : ℕ) (old new : List ℕ) (x : Mark) → x ≡ m j → Filled old new (x .from) (x .to) (x .value) →
       Holds (λ v. markedTo m start v j) n old → Holds (λ v. markedTo m start v (j + 1)) n new
-  marked-step n j old new x e w t = record { room = omega (arith, w .same, t .room); at = λ v l. go v l (at-says x v) }
+  marked-step n j old new x e w trailer = record { room = omega (arith, w .same, trailer .room); at = λ v l. go v l (at-says x v) }
     where
       go : (v : ℕ) → v < n → {s : Bool} → Says (At x v) s → getD new v 0 ≡ markedTo m start v (j + 1)
       go v l (holds p) = w .within v (p .0) (p .1) ∙ rw (add-one, marked-in v j (rw e at p), e) refl
-      go v l (fails k) = filled-out w v k ∙ t .at v l ∙ rw (add-one, marked-out v j (rw e at k)) refl
+      go v l (fails k) = filled-out w v k ∙ trailer .at v l ∙ rw (add-one, marked-out v j (rw e at k)) refl
 
 -- a mark above x that was written: the last one
 pub marked-has : (m : ℕ → Mark) (v x n : ℕ) → x < markedTo m 0 v n → (j : ℕ) × (j < n) × (At (m j) v × (x < m j .value))
@@ -93,11 +93,11 @@ mark-fits e w rule j x q p =
     ]
 
 -- the mark that is made from the records, where n is the header's count if the rule asks for it
-pub handed-mark : (f : List ℕ) (t : Trailer) (loops : List Loop) (rule j n : ℕ) (x : Mark) → Handed f t loops → j < t .loops →
-    (rule ≡ 10 → n ≡ shown (countIn loops (suc j) (getD loops j noLoop .first))) → x ≡ loopMark rule (getD loops j noLoop) n → x ≡ marks (caseOf f t) rule j
+pub handed-mark : (f : List ℕ) (trailer : Trailer) (loops : List Loop) (rule j n : ℕ) (x : Mark) → Handed f trailer loops → j < trailer .loops →
+    (rule ≡ 10 → n ≡ shown (countIn loops (suc j) (getD loops j noLoop .first))) → x ≡ loopMark rule (getD loops j noLoop) n → x ≡ marks (caseOf f trailer) rule j
 unfolding marks loopMark caseOf
-handed-mark f t loops rule j n x w q h e =
+handed-mark f trailer loops rule j n x w q h e =
     elim (ℕ-discrete rule 10) [
-      | yes p ↦ e ∙ rw (h p, handed-header f t loops w j q, w .at j q) refl
+      | yes p ↦ e ∙ rw (h p, handed-header f trailer loops w j q, w .at j q) refl
       | no k ↦ e ∙ rw (ne-eqb rule 10 k, w .at j q) refl
     ]

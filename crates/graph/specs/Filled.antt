@@ -7,9 +7,9 @@ use lib.ListN.{length, getD}
 -- the places from a to before z hold x, the others what they held
 pub record Filled (old new : List ℕ) (a z x : ℕ) : Type 0 where
   pub same : length new ≡ length old
-  pub below : (k : ℕ) → k < a → getD new k 0 ≡ getD old k 0
-  pub within : (k : ℕ) → a ≤ k → k < z → getD new k 0 ≡ x
-  pub above : (k : ℕ) → z ≤ k → getD new k 0 ≡ getD old k 0
+  pub below : (i : ℕ) → i < a → getD new i 0 ≡ getD old i 0
+  pub within : (i : ℕ) → a ≤ i → i < z → getD new i 0 ≡ x
+  pub above : (i : ℕ) → z ≤ i → getD new i 0 ≡ getD old i 0
 
 -- the first n places hold g's values
 pub record Holds (g : ℕ → ℕ) (n : ℕ) (l : List ℕ) : Type 0 where

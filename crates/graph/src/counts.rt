@@ -13,11 +13,11 @@ use crate::marks::mark_nodes;
 use paper::Trailer;
 
 // The least node whose count is too large, or their number.
-fn first_zero(t: Trailer, table: &[u32]) -> u16
-    requires { ⌜ t .nodes ≤ length (now table) ⌝ }
-    ensures { λ r. ⌜ r ≡ least (λ v. eqb (getD (now (table .entry)) v 0) 0) (t .nodes) ⌝ }
+fn first_zero(trailer: Trailer, table: &[u32]) -> u16
+    requires { ⌜ trailer .nodes ≤ length (now table) ⌝ }
+    ensures { λ r. ⌜ r ≡ least (λ v. eqb (getD (now (table .entry)) v 0) 0) (trailer .nodes) ⌝ }
 {
-    let n = t.nodes;
+    let n = trailer.nodes;
     let mut v: u16 = 0;
     while v < n {
         if table[v as usize] == 0 {
@@ -29,13 +29,13 @@ fn first_zero(t: Trailer, table: &[u32]) -> u16
 }
 
 // The least node that breaks rule 10, or their number.
-pub fn first_bad_count(file: &[u8], t: Trailer, counts: &mut [u32]) -> u16
-    requires { ⌜ Laid (now file) t ⌝ }
-    requires { ⌜ Shaped (caseOf (now file) t) ⌝ }
+pub fn first_bad_count(file: &[u8], trailer: Trailer, counts: &mut [u32]) -> u16
+    requires { ⌜ Laid (now file) trailer ⌝ }
+    requires { ⌜ Shaped (caseOf (now file) trailer) ⌝ }
     requires { ⌜ mostNodes ≤ length (now counts) ⌝ }
-    ensures { λ r. ⌜ r ≡ least (Graphs.badCount (caseOf (now (file .entry)) t)) (t .nodes) ⌝ }
-    ensures { λ r. ⌜ (t .nodes ≤ r → Counted (now (file .entry)) t (now (counts .exit))) ⌝ }
+    ensures { λ r. ⌜ r ≡ least (Graphs.badCount (caseOf (now (file .entry)) trailer)) (trailer .nodes) ⌝ }
+    ensures { λ r. ⌜ (trailer .nodes ≤ r → Counted (now (file .entry)) trailer (now (counts .exit))) ⌝ }
 {
-    mark_nodes(file, t, counts, 10, 1);
-    first_zero(t, counts)
+    mark_nodes(file, trailer, counts, 10, 1);
+    first_zero(trailer, counts)
 }

@@ -19,17 +19,17 @@ fn wrong_edge(nodes: u16, i: u16, a: u16, b: u16, u: u16, v: u16) -> bool
 }
 
 // The least edge that breaks rule 6, or their number; a and b are the ends of the edge before.
-pub fn first_bad_edge(file: &[u8], t: Trailer) -> u16
-    requires { ⌜ Laid (now file) t ⌝ }
-    ensures { λ r. ⌜ r ≡ least (Graphs.badEdge (caseOf (now (file .entry)) t)) (t .edges) ⌝ }
+pub fn first_bad_edge(file: &[u8], trailer: Trailer) -> u16
+    requires { ⌜ Laid (now file) trailer ⌝ }
+    ensures { λ r. ⌜ r ≡ least (Graphs.badEdge (caseOf (now (file .entry)) trailer)) (trailer .edges) ⌝ }
 {
     let mut i: u16 = 0;
     let mut a: u16 = 0;
     let mut b: u16 = 0;
-    while i < t.edges {
-        let u = layout::from_at(file, t, i);
-        let v = layout::to_at(file, t, i);
-        if wrong_edge(t.nodes, i, a, b, u, v) {
+    while i < trailer.edges {
+        let u = layout::from_at(file, trailer, i);
+        let v = layout::to_at(file, trailer, i);
+        if wrong_edge(trailer.nodes, i, a, b, u, v) {
             return i;
         }
         a = u;
@@ -50,17 +50,17 @@ fn breaks(rule: u8, u: u16, v: u16, mark: u32) -> bool
 }
 
 // The least edge that breaks the rule, 8 or 9, or their number.
-fn first_edge(file: &[u8], t: Trailer, table: &[u32], rule: u8) -> u16
-    requires { ⌜ Laid (now file) t ⌝ }
-    requires { ⌜ Shaped (caseOf (now file) t) ⌝ }
+fn first_edge(file: &[u8], trailer: Trailer, table: &[u32], rule: u8) -> u16
+    requires { ⌜ Laid (now file) trailer ⌝ }
+    requires { ⌜ Shaped (caseOf (now file) trailer) ⌝ }
     requires { ⌜ rule < 10 ⌝ }
-    requires { ⌜ Holds (λ v. Marks.markedTo (Marks.marks (caseOf (now file) t) rule) 0 v (t .loops)) (t .nodes) (now table) ⌝ }
-    ensures { λ r. ⌜ r ≡ least (Marks.edgeRule (caseOf (now (file .entry)) t) rule) (t .edges) ⌝ }
+    requires { ⌜ Holds (λ v. Marks.markedTo (Marks.marks (caseOf (now file) trailer) rule) 0 v (trailer .loops)) (trailer .nodes) (now table) ⌝ }
+    ensures { λ r. ⌜ r ≡ least (Marks.edgeRule (caseOf (now (file .entry)) trailer) rule) (trailer .edges) ⌝ }
 {
     let mut i: u16 = 0;
-    while i < t.edges {
-        let u = layout::from_at(file, t, i);
-        let v = layout::to_at(file, t, i);
+    while i < trailer.edges {
+        let u = layout::from_at(file, trailer, i);
+        let v = layout::to_at(file, trailer, i);
         if breaks(rule, u, v, table[v as usize]) {
             return i;
         }
@@ -70,13 +70,13 @@ fn first_edge(file: &[u8], t: Trailer, table: &[u32], rule: u8) -> u16
 }
 
 // Rules 8 and 9: the least edge that breaks the rule, or their number.
-pub fn edge_rule(file: &[u8], t: Trailer, table: &mut [u32], rule: u8) -> u16
-    requires { ⌜ Laid (now file) t ⌝ }
-    requires { ⌜ Shaped (caseOf (now file) t) ⌝ }
+pub fn edge_rule(file: &[u8], trailer: Trailer, table: &mut [u32], rule: u8) -> u16
+    requires { ⌜ Laid (now file) trailer ⌝ }
+    requires { ⌜ Shaped (caseOf (now file) trailer) ⌝ }
     requires { ⌜ rule < 10 ⌝ }
     requires { ⌜ mostNodes ≤ length (now table) ⌝ }
-    ensures { λ r. ⌜ r ≡ least (Marks.edgeRule (caseOf (now (file .entry)) t) rule) (t .edges) ⌝ }
+    ensures { λ r. ⌜ r ≡ least (Marks.edgeRule (caseOf (now (file .entry)) trailer) rule) (trailer .edges) ⌝ }
 {
-    mark_nodes(file, t, table, rule, 0);
-    first_edge(file, t, table, rule)
+    mark_nodes(file, trailer, table, rule, 0);
+    first_edge(file, trailer, table, rule)
 }

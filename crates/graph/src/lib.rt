@@ -21,68 +21,68 @@ use paper::Trailer;
 use paper::Verdict;
 
 // 6 and 7: edges and loops by themselves.
-pub fn shape_rules(file: &[u8], t: Trailer) -> Verdict
-    requires { ⌜ Laid (now file) t ⌝ }
-    ensures { λ r. ⌜ r ≡ Verdicts.shapeRules (caseOf (now (file .entry)) t) Verdict.Accepted ⌝ }
+pub fn shape_rules(file: &[u8], trailer: Trailer) -> Verdict
+    requires { ⌜ Laid (now file) trailer ⌝ }
+    ensures { λ r. ⌜ r ≡ Verdicts.shapeRules (caseOf (now (file .entry)) trailer) Verdict.Accepted ⌝ }
 {
-    let edge = first_bad_edge(file, t);
-    if edge < t.edges {
+    let edge = first_bad_edge(file, trailer);
+    if edge < trailer.edges {
         return Verdict::Refused(paper::refuse(6, edge as usize));
     }
-    let looped = first_bad_loop(file, t);
-    if looped < t.loops {
+    let looped = first_bad_loop(file, trailer);
+    if looped < trailer.loops {
         return Verdict::Refused(paper::refuse(7, looped as usize));
     }
     Verdict::Accepted
 }
 
 // 8 and 9: the ways into loops and back. The table is overwritten.
-pub fn path_rules(file: &[u8], t: Trailer, table: &mut [u32]) -> Verdict
-    requires { ⌜ Laid (now file) t ⌝ }
-    requires { ⌜ Shaped (caseOf (now file) t) ⌝ }
+pub fn path_rules(file: &[u8], trailer: Trailer, table: &mut [u32]) -> Verdict
+    requires { ⌜ Laid (now file) trailer ⌝ }
+    requires { ⌜ Shaped (caseOf (now file) trailer) ⌝ }
     requires { ⌜ mostNodes ≤ length (now table) ⌝ }
-    ensures { λ r. ⌜ r ≡ Verdicts.pathRules (caseOf (now (file .entry)) t) Verdict.Accepted ⌝ }
+    ensures { λ r. ⌜ r ≡ Verdicts.pathRules (caseOf (now (file .entry)) trailer) Verdict.Accepted ⌝ }
 {
-    let forward = edge_rule(file, t, table, 8);
-    if forward < t.edges {
+    let forward = edge_rule(file, trailer, table, 8);
+    if forward < trailer.edges {
         return Verdict::Refused(paper::refuse(8, forward as usize));
     }
-    let back = edge_rule(file, t, table, 9);
-    if back < t.edges {
+    let back = edge_rule(file, trailer, table, 9);
+    if back < trailer.edges {
         return Verdict::Refused(paper::refuse(9, back as usize));
     }
     Verdict::Accepted
 }
 
 // 10: the counts, which the table holds afterwards.
-pub fn count_rules(file: &[u8], t: Trailer, counts: &mut [u32]) -> Verdict
-    requires { ⌜ Laid (now file) t ⌝ }
-    requires { ⌜ Shaped (caseOf (now file) t) ⌝ }
+pub fn count_rules(file: &[u8], trailer: Trailer, counts: &mut [u32]) -> Verdict
+    requires { ⌜ Laid (now file) trailer ⌝ }
+    requires { ⌜ Shaped (caseOf (now file) trailer) ⌝ }
     requires { ⌜ mostNodes ≤ length (now counts) ⌝ }
-    ensures { λ r. ⌜ r ≡ Verdicts.countRules (caseOf (now (file .entry)) t) Verdict.Accepted ⌝ }
-    ensures { λ r. ⌜ (r ≡ Verdict.Accepted → Counted (now (file .entry)) t (now (counts .exit))) ⌝ }
+    ensures { λ r. ⌜ r ≡ Verdicts.countRules (caseOf (now (file .entry)) trailer) Verdict.Accepted ⌝ }
+    ensures { λ r. ⌜ (r ≡ Verdict.Accepted → Counted (now (file .entry)) trailer (now (counts .exit))) ⌝ }
 {
-    let node = first_bad_count(file, t, counts);
-    if node < t.nodes {
+    let node = first_bad_count(file, trailer, counts);
+    if node < trailer.nodes {
         return Verdict::Refused(paper::refuse(10, node as usize));
     }
     Verdict::Accepted
 }
 
-pub fn graph_rules(file: &[u8], t: Trailer, counts: &mut [u32]) -> Verdict
-    requires { ⌜ Laid (now file) t ⌝ }
+pub fn graph_rules(file: &[u8], trailer: Trailer, counts: &mut [u32]) -> Verdict
+    requires { ⌜ Laid (now file) trailer ⌝ }
     requires { ⌜ mostNodes ≤ length (now counts) ⌝ }
-    ensures { λ r. ⌜ r ≡ Verdicts.graphRules (caseOf (now (file .entry)) t) Verdict.Accepted ⌝ }
+    ensures { λ r. ⌜ r ≡ Verdicts.graphRules (caseOf (now (file .entry)) trailer) Verdict.Accepted ⌝ }
     ensures { λ r. ⌜ length (now (counts .exit)) ≡ length (now (counts .entry)) ⌝ }
-    ensures { λ r. ⌜ (r ≡ Verdict.Accepted → Counted (now (file .entry)) t (now (counts .exit))) ⌝ }
+    ensures { λ r. ⌜ (r ≡ Verdict.Accepted → Counted (now (file .entry)) trailer (now (counts .exit))) ⌝ }
 {
-    let shape = shape_rules(file, t);
+    let shape = shape_rules(file, trailer);
     if let Verdict::Refused(r) = shape {
         return Verdict::Refused(r);
     }
-    let paths = path_rules(file, t, counts);
+    let paths = path_rules(file, trailer, counts);
     if let Verdict::Refused(r) = paths {
         return Verdict::Refused(r);
     }
-    count_rules(file, t, counts)
+    count_rules(file, trailer, counts)
 }

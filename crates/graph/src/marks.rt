@@ -23,10 +23,10 @@ fn fill(table: &mut [u32], from: usize, to: usize, x: u32)
     requires { ⌜ to ≤ length (now table) ⌝ }
     ensures { λ r. ⌜ Filled (now (table .entry)) (now (table .exit)) from to x ⌝ }
 {
-    let mut k = from;
-    while k < to {
-        table[k] = x;
-        k += 1;
+    let mut i = from;
+    while i < to {
+        table[i] = x;
+        i += 1;
     }
 }
 
@@ -58,16 +58,16 @@ fn loop_mark(l: Loop, n: u32, rule: u8) -> Mark
 }
 
 // All nodes begin with `start`, and the loops mark theirs in turn: loops come by rising headers, so an inner loop marks over those around it.
-pub fn mark_nodes(file: &[u8], t: Trailer, table: &mut [u32], rule: u8, start: u32)
-    requires { ⌜ Laid (now file) t ⌝ }
-    requires { ⌜ Shaped (caseOf (now file) t) ⌝ }
+pub fn mark_nodes(file: &[u8], trailer: Trailer, table: &mut [u32], rule: u8, start: u32)
+    requires { ⌜ Laid (now file) trailer ⌝ }
+    requires { ⌜ Shaped (caseOf (now file) trailer) ⌝ }
     requires { ⌜ mostNodes ≤ length (now table) ⌝ }
-    ensures { λ r. ⌜ Holds (λ v. Marks.markedTo (Marks.marks (caseOf (now (file .entry)) t) rule) start v (t .loops)) (t .nodes) (now (table .exit)) ⌝ }
+    ensures { λ r. ⌜ Holds (λ v. Marks.markedTo (Marks.marks (caseOf (now (file .entry)) trailer) rule) start v (trailer .loops)) (trailer .nodes) (now (table .exit)) ⌝ }
 {
-    fill(table, 0, t.nodes as usize, start);
-    let loops = loops::loops_of(file, t);
+    fill(table, 0, trailer.nodes as usize, start);
+    let loops = loops::loops_of(file, trailer);
     let mut j: u16 = 0;
-    while j < t.loops {
+    while j < trailer.loops {
         let n = if rule == 10 {
             loops::header_count(loops, j)
         } else {

@@ -15,14 +15,14 @@ fn crosses(a: Loop, b: Loop) -> bool
 }
 
 // The first of the i loops before that l crosses, or i.
-fn crossed(file: &[u8], t: Trailer, i: u16, l: Loop) -> u16
-    requires { ⌜ Laid (now file) t ⌝ }
-    requires { ⌜ i < t .loops ⌝ }
-    ensures { λ r. ⌜ r ≡ least (λ j. Graphs.crosses (loopAt (now (file .entry)) t j) l) i ⌝ }
+fn crossed(file: &[u8], trailer: Trailer, i: u16, l: Loop) -> u16
+    requires { ⌜ Laid (now file) trailer ⌝ }
+    requires { ⌜ i < trailer .loops ⌝ }
+    ensures { λ r. ⌜ r ≡ least (λ j. Graphs.crosses (loopAt (now (file .entry)) trailer j) l) i ⌝ }
 {
     let mut j: u16 = 0;
     while j < i {
-        if crosses(layout::loop_at(file, t, j), l) {
+        if crosses(layout::loop_at(file, trailer, j), l) {
             return j;
         }
         j += 1;
@@ -31,28 +31,28 @@ fn crossed(file: &[u8], t: Trailer, i: u16, l: Loop) -> u16
 }
 
 // Rule 7 for l, loop i; h is the header of the loop before.
-fn wrong_loop(file: &[u8], t: Trailer, i: u16, h: u16, l: Loop) -> bool
-    requires { ⌜ Laid (now file) t ⌝ }
-    requires { ⌜ i < t .loops ⌝ }
-    ensures { λ r. ⌜ r ≡ Graphs.wrongLoop (t .nodes) (loopAt (now (file .entry)) t) i h l ⌝ }
+fn wrong_loop(file: &[u8], trailer: Trailer, i: u16, h: u16, l: Loop) -> bool
+    requires { ⌜ Laid (now file) trailer ⌝ }
+    requires { ⌜ i < trailer .loops ⌝ }
+    ensures { λ r. ⌜ r ≡ Graphs.wrongLoop (trailer .nodes) (loopAt (now (file .entry)) trailer) i h l ⌝ }
 {
     (l.last < l.first)
-        | ((t.nodes <= l.last)
+        | ((trailer.nodes <= l.last)
             | ((l.bound < 1)
                 | ((1000000 < l.bound)
-                    | (((0 < i) & (l.first <= h)) | (crossed(file, t, i, l) < i)))))
+                    | (((0 < i) & (l.first <= h)) | (crossed(file, trailer, i, l) < i)))))
 }
 
 // The least loop that breaks rule 7, or their number.
-pub fn first_bad_loop(file: &[u8], t: Trailer) -> u16
-    requires { ⌜ Laid (now file) t ⌝ }
-    ensures { λ r. ⌜ r ≡ least (Graphs.badLoop (caseOf (now (file .entry)) t)) (t .loops) ⌝ }
+pub fn first_bad_loop(file: &[u8], trailer: Trailer) -> u16
+    requires { ⌜ Laid (now file) trailer ⌝ }
+    ensures { λ r. ⌜ r ≡ least (Graphs.badLoop (caseOf (now (file .entry)) trailer)) (trailer .loops) ⌝ }
 {
     let mut i: u16 = 0;
     let mut h: u16 = 0;
-    while i < t.loops {
-        let l = layout::loop_at(file, t, i);
-        if wrong_loop(file, t, i, h, l) {
+    while i < trailer.loops {
+        let l = layout::loop_at(file, trailer, i);
+        if wrong_loop(file, trailer, i, h, l) {
             return i;
         }
         h = l.first;

@@ -22,14 +22,14 @@ module _ (s : Trailer) (v : Verdict) where
   unfolding reading
   refuses r e = ap (reading s) e
 
-  pub reads : (t : Trailer) → t ≡ s → Verdicts.Accepted ≡ v → Read t ≡ reading s v
+  pub reads : (trailer : Trailer) → trailer ≡ s → Verdicts.Accepted ≡ v → Read trailer ≡ reading s v
   unfolding reading
-  reads t q e = rw q (ap (reading s) e)
+  reads trailer q e = rw q (ap (reading s) e)
 
-read-is : (s t : Trailer) (v : Verdict) → reading s v ≡ Read t → (t ≡ s) × (v ≡ Verdicts.Accepted)
+read-is : (s trailer : Trailer) (v : Verdict) → reading s v ≡ Read trailer → (trailer ≡ s) × (v ≡ Verdicts.Accepted)
 unfolding reading
-read-is s t Verdicts.Accepted e = let q : s ≡ t = cc in (sym q, refl)
-read-is s t (Verdicts.Refused r) e = let z : _≡_ {A = ℕ} 0 1 = cc in absurd (omega arith)
+read-is s trailer Verdicts.Accepted e = let q : s ≡ trailer = cc in (sym q, refl)
+read-is s trailer (Verdicts.Refused r) e = let z : _≡_ {A = ℕ} 0 1 = cc in absurd (omega arith)
 
 refused-is : (s : Trailer) (r : Refusal) (v : Verdict) → reading s v ≡ Refused r → v ≡ Verdicts.Refused r
 unfolding reading
@@ -37,16 +37,16 @@ refused-is s r Verdicts.Accepted e = let z : _≡_ {A = ℕ} 0 1 = cc in absurd 
 refused-is s r (Verdicts.Refused x) e = let q : x ≡ r = cc in ap Verdicts.Refused q
 
 module _ (f : List ℕ) where
-  module _ (t : Trailer) (e : layoutOf f ≡ Read t) where
-    pub read-trailer : t ≡ trailerOf f
+  module _ (trailer : Trailer) (e : layoutOf f ≡ Read trailer) where
+    pub read-trailer : trailer ≡ trailerOf f
     unfolding layoutOf
-    read-trailer = read-is (trailerOf f) t (layoutRules f Verdicts.Accepted) e .0
+    read-trailer = read-is (trailerOf f) trailer (layoutRules f Verdicts.Accepted) e .0
 
     read-passes : Passes (layoutRules f)
     unfolding layoutOf
-    read-passes = read-is (trailerOf f) t (layoutRules f Verdicts.Accepted) e .1
+    read-passes = read-is (trailerOf f) trailer (layoutRules f Verdicts.Accepted) e .1
 
-    pub read-laid : Laid f t
+    pub read-laid : Laid f trailer
     read-laid = rw read-trailer (layout-kept f Verdicts.Accepted read-passes .0)
 
     pub read-rules : (rest : Verdict) → layoutRules f rest ≡ rest

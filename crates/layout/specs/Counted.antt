@@ -7,6 +7,6 @@ use Rattle.paper.specs.declared.Trailer.{Trailer}
 use Rattle.paper.specs.Graphs.{count}
 use Rattle.paper.specs.Files.{caseOf}
 
-pub record Counted (f : List ℕ) (t : Trailer) (counts : List ℕ) : Type 0 where
-  pub room : t .nodes ≤ length counts
-  pub at : (v : ℕ) → v < t .nodes → getD counts v 0 ≡ count (caseOf f t) v
+pub record Counted (f : List ℕ) (trailer : Trailer) (counts : List ℕ) : Type 0 where
+  pub room : trailer .nodes ≤ length counts
+  pub at : (v : ℕ) → v < trailer .nodes → getD counts v 0 ≡ count (caseOf f trailer) v

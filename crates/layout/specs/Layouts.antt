@@ -10,8 +10,8 @@ use Rattle.layout.specs.declared.Layout.{Layout}
 use Rattle.layout.specs.declared.Layout.the-variants.{Read, Refused}
 
 unfoldable pub reading : Trailer → Verdict → Layout
-reading t Verdicts.Accepted = Read t
-reading t (Verdicts.Refused r) = Refused r
+reading trailer Verdicts.Accepted = Read trailer
+reading trailer (Verdicts.Refused r) = Refused r
 
 unfoldable pub layoutOf : List ℕ → Layout
 layoutOf f = reading (trailerOf f) (layoutRules f Verdicts.Accepted)

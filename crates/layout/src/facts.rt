@@ -40,10 +40,10 @@ pub fn number_at(file: &[u8], p: usize) -> u16
     u16_at(file, p)
 }
 
-pub fn slot_at(file: &[u8], p: usize, k: u16) -> u16
+pub fn slot_at(file: &[u8], p: usize, i: u16) -> u16
     requires { ⌜ p + Records.rowSize ≤ length (now file) ⌝ }
-    requires { ⌜ k < 7 ⌝ }
-    ensures { λ r. ⌜ r ≡ Files.rowAt (now (file .entry)) p .slot k ⌝ }
+    requires { ⌜ i < 7 ⌝ }
+    ensures { λ r. ⌜ r ≡ Files.rowAt (now (file .entry)) p .slot i ⌝ }
 {
-    u16_at(file, p + SLOTS_FIELD + SLOT_SIZE * (k as usize))
+    u16_at(file, p + SLOTS_FIELD + SLOT_SIZE * (i as usize))
 }

@@ -65,14 +65,14 @@ fn wrong_letter(file: &[u8]) -> usize
 {
     let letters = b"QMBT";
     let end = end_of(file);
-    let mut k = 0;
-    while k < 4 {
-        if file[end + LETTERS_FIELD + k] != letters[k] {
-            return k;
+    let mut i = 0;
+    while i < 4 {
+        if file[end + LETTERS_FIELD + i] != letters[i] {
+            return i;
         }
-        k += 1;
+        i += 1;
     }
-    k
+    i
 }
 
 fn bad_letters(file: &[u8]) -> bool
@@ -99,30 +99,30 @@ fn trailer_of(file: &[u8]) -> Trailer
     }
 }
 
-fn bad_cache(t: Trailer) -> bool
-    ensures { λ r. ⌜ r ≡ Files.badCache t ⌝ }
+fn bad_cache(trailer: Trailer) -> bool
+    ensures { λ r. ⌜ r ≡ Files.badCache trailer ⌝ }
 {
-    !paper::is_in_range(t.policy, t.ways, t.sets)
+    !paper::is_in_range(trailer.policy, trailer.ways, trailer.sets)
 }
 
-fn bad_numbers(t: Trailer) -> bool
-    ensures { λ r. ⌜ r ≡ Files.badNumbers t ⌝ }
+fn bad_numbers(trailer: Trailer) -> bool
+    ensures { λ r. ⌜ r ≡ Files.badNumbers trailer ⌝ }
 {
-    (t.nodes < 1)
-        | ((MOST_NODES < t.nodes as usize)
-            | ((MOST_EDGES < t.edges as usize)
-                | ((MOST_LOOPS < t.loops as usize) | (MOST_FACTS < t.facts as usize))))
+    (trailer.nodes < 1)
+        | ((MOST_NODES < trailer.nodes as usize)
+            | ((MOST_EDGES < trailer.edges as usize)
+                | ((MOST_LOOPS < trailer.loops as usize) | (MOST_FACTS < trailer.facts as usize))))
 }
 
-fn bad_offsets(file: &[u8], t: Trailer) -> bool
+fn bad_offsets(file: &[u8], trailer: Trailer) -> bool
     requires { ⌜ Records.trailerSize ≤ length (now file) ⌝ }
-    ensures { λ r. ⌜ r ≡ Files.badOffsets (now (file .entry)) t ⌝ }
+    ensures { λ r. ⌜ r ≡ Files.badOffsets (now (file .entry)) trailer ⌝ }
 {
     let end = end_of(file);
-    let facts = facts_at(t);
+    let facts = facts_at(trailer);
     !(u32_at(file, end) == 0)
-        | (!(u32_at(file, end + EDGES_OFFSET) as usize == edges_at(t))
-            | (!(u32_at(file, end + LOOPS_OFFSET) as usize == loops_at(t))
+        | (!(u32_at(file, end + EDGES_OFFSET) as usize == edges_at(trailer))
+            | (!(u32_at(file, end + LOOPS_OFFSET) as usize == loops_at(trailer))
                 | (!(u32_at(file, end + FACTS_OFFSET) as usize == facts) | (end < facts))))
 }
 
@@ -135,15 +135,15 @@ pub fn layout_of(file: &[u8]) -> Layout
     if bad_letters(file) {
         return Layout::Refused(paper::refuse(2, 0));
     }
-    let t = trailer_of(file);
-    if bad_cache(t) {
+    let trailer = trailer_of(file);
+    if bad_cache(trailer) {
         return Layout::Refused(paper::refuse(3, 0));
     }
-    if bad_numbers(t) {
+    if bad_numbers(trailer) {
         return Layout::Refused(paper::refuse(4, 0));
     }
-    if bad_offsets(file, t) {
+    if bad_offsets(file, trailer) {
         return Layout::Refused(paper::refuse(5, 0));
     }
-    Layout::Read(t)
+    Layout::Read(trailer)
 }

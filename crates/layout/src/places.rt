@@ -75,34 +75,34 @@ pub fn node_place(v: u16) -> usize
     NODE_SIZE * (v as usize)
 }
 
-pub fn edges_at(t: Trailer) -> usize
-    ensures { λ r. ⌜ r ≡ Files.edgesAt t ⌝ }
+pub fn edges_at(trailer: Trailer) -> usize
+    ensures { λ r. ⌜ r ≡ Files.edgesAt trailer ⌝ }
 {
-    node_place(t.nodes)
+    node_place(trailer.nodes)
 }
 
-pub fn edge_place(t: Trailer, i: u16) -> usize
-    ensures { λ r. ⌜ r ≡ Files.edgePlace t i ⌝ }
+pub fn edge_place(trailer: Trailer, i: u16) -> usize
+    ensures { λ r. ⌜ r ≡ Files.edgePlace trailer i ⌝ }
 {
-    edges_at(t) + EDGE_SIZE * (i as usize)
+    edges_at(trailer) + EDGE_SIZE * (i as usize)
 }
 
-pub fn loops_at(t: Trailer) -> usize
-    ensures { λ r. ⌜ r ≡ Files.loopsAt t ⌝ }
+pub fn loops_at(trailer: Trailer) -> usize
+    ensures { λ r. ⌜ r ≡ Files.loopsAt trailer ⌝ }
 {
-    edge_place(t, t.edges)
+    edge_place(trailer, trailer.edges)
 }
 
-pub fn loop_place(t: Trailer, j: u16) -> usize
-    ensures { λ r. ⌜ r ≡ Files.loopPlace t j ⌝ }
+pub fn loop_place(trailer: Trailer, j: u16) -> usize
+    ensures { λ r. ⌜ r ≡ Files.loopPlace trailer j ⌝ }
 {
-    loops_at(t) + LOOP_SIZE * (j as usize)
+    loops_at(trailer) + LOOP_SIZE * (j as usize)
 }
 
-pub fn facts_at(t: Trailer) -> usize
-    ensures { λ r. ⌜ r ≡ Files.factsAt t ⌝ }
+pub fn facts_at(trailer: Trailer) -> usize
+    ensures { λ r. ⌜ r ≡ Files.factsAt trailer ⌝ }
 {
-    loop_place(t, t.loops)
+    loop_place(trailer, trailer.loops)
 }
 
 // How long the rows of n nodes are.

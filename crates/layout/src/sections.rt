@@ -16,36 +16,36 @@ use crate::places::node_place;
 use paper::Loop;
 use paper::Trailer;
 
-pub fn node_at(file: &[u8], t: Trailer, v: u16) -> u16
-    requires { ⌜ Laid (now file) t ⌝ }
-    requires { ⌜ v < t .nodes ⌝ }
+pub fn node_at(file: &[u8], trailer: Trailer, v: u16) -> u16
+    requires { ⌜ Laid (now file) trailer ⌝ }
+    requires { ⌜ v < trailer .nodes ⌝ }
     ensures { λ r. ⌜ r ≡ Files.nodeAt (now (file .entry)) v ⌝ }
 {
     u16_at(file, node_place(v))
 }
 
-pub fn from_at(file: &[u8], t: Trailer, i: u16) -> u16
-    requires { ⌜ Laid (now file) t ⌝ }
-    requires { ⌜ i < t .edges ⌝ }
-    ensures { λ r. ⌜ r ≡ Files.fromAt (now (file .entry)) t i ⌝ }
+pub fn from_at(file: &[u8], trailer: Trailer, i: u16) -> u16
+    requires { ⌜ Laid (now file) trailer ⌝ }
+    requires { ⌜ i < trailer .edges ⌝ }
+    ensures { λ r. ⌜ r ≡ Files.fromAt (now (file .entry)) trailer i ⌝ }
 {
-    u16_at(file, edge_place(t, i))
+    u16_at(file, edge_place(trailer, i))
 }
 
-pub fn to_at(file: &[u8], t: Trailer, i: u16) -> u16
-    requires { ⌜ Laid (now file) t ⌝ }
-    requires { ⌜ i < t .edges ⌝ }
-    ensures { λ r. ⌜ r ≡ Files.toAt (now (file .entry)) t i ⌝ }
+pub fn to_at(file: &[u8], trailer: Trailer, i: u16) -> u16
+    requires { ⌜ Laid (now file) trailer ⌝ }
+    requires { ⌜ i < trailer .edges ⌝ }
+    ensures { λ r. ⌜ r ≡ Files.toAt (now (file .entry)) trailer i ⌝ }
 {
-    u16_at(file, edge_place(t, i) + TO_FIELD)
+    u16_at(file, edge_place(trailer, i) + TO_FIELD)
 }
 
-pub fn loop_at(file: &[u8], t: Trailer, j: u16) -> Loop
-    requires { ⌜ Laid (now file) t ⌝ }
-    requires { ⌜ j < t .loops ⌝ }
-    ensures { λ r. ⌜ r ≡ Files.loopAt (now (file .entry)) t j ⌝ }
+pub fn loop_at(file: &[u8], trailer: Trailer, j: u16) -> Loop
+    requires { ⌜ Laid (now file) trailer ⌝ }
+    requires { ⌜ j < trailer .loops ⌝ }
+    ensures { λ r. ⌜ r ≡ Files.loopAt (now (file .entry)) trailer j ⌝ }
 {
-    let at = loop_place(t, j);
+    let at = loop_place(trailer, j);
     Loop {
         first: u16_at(file, at),
         last: u16_at(file, at + LAST_FIELD),
@@ -53,17 +53,17 @@ pub fn loop_at(file: &[u8], t: Trailer, j: u16) -> Loop
     }
 }
 
-pub fn range_at(file: &[u8], t: Trailer, w: u16) -> Loop
-    requires { ⌜ Laid (now file) t ⌝ }
-    requires { ⌜ (w ≢ 65535 → w < t .loops) ⌝ }
-    ensures { λ r. ⌜ r ≡ Cases.rangeOf (t .nodes) (Files.loopAt (now (file .entry)) t) w ⌝ }
+pub fn range_at(file: &[u8], trailer: Trailer, w: u16) -> Loop
+    requires { ⌜ Laid (now file) trailer ⌝ }
+    requires { ⌜ (w ≢ 65535 → w < trailer .loops) ⌝ }
+    ensures { λ r. ⌜ r ≡ Cases.rangeOf (trailer .nodes) (Files.loopAt (now (file .entry)) trailer) w ⌝ }
 {
     if w == 65535 {
         return Loop {
             first: 0,
-            last: t.nodes - 1,
+            last: trailer.nodes - 1,
             bound: 1,
         };
     }
-    loop_at(file, t, w)
+    loop_at(file, trailer, w)
 }

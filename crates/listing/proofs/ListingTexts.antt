@@ -55,12 +55,12 @@ module _ (f : List ℕ) where
   unfolding verdict
   layout-text r e = ap (printed f) (sym (refused-rules f r _ e))
 
-  pub accepted-text : (lent after : List ℕ) (t : Trailer) (v : Verdict) → layoutOf f ≡ Layouts.Read t → v ≡ verdict f 321 → after ≡ lentAfter f lent v → v ≡ Accepted →
-      numberLines after (t .sets) (t .facts) ≡ printed f (verdict f 321)
+  pub accepted-text : (lent after : List ℕ) (trailer : Trailer) (v : Verdict) → layoutOf f ≡ Layouts.Read trailer → v ≡ verdict f 321 → after ≡ lentAfter f lent v → v ≡ Accepted →
+      numberLines after (trailer .sets) (trailer .facts) ≡ printed f (verdict f 321)
   unfolding caseOf
-  accepted-text lent after t v l a n e =
-      let d : Laid f (trailerOf f) = rw (read-trailer f t l) at (read-laid f t l) in
-      rw (n, ← a, e, read-trailer f t l) (numbers-text (readCase f) (drop 321 lent) (d .sets-high) (d .facts-high))
+  accepted-text lent after trailer v l a n e =
+      let d : Laid f (trailerOf f) = rw (read-trailer f trailer l) at (read-laid f trailer l) in
+      rw (n, ← a, e, read-trailer f trailer l) (numbers-text (readCase f) (drop 321 lent) (d .sets-high) (d .facts-high))
 
   pub longer : (r : Refusal) → 65536 < length f → r ≡ refuse 28 0 → refusalLine r ≡ listingOf f
   unfolding listingOf

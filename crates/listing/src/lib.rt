@@ -61,7 +61,12 @@ fn checked(file: &[u8], out: &mut [u8; LONGEST]) -> usize
         Verdict::Refused(r) => refused(out, r),
         Verdict::Accepted => match layout::layout_of(file) {
             Layout::Refused(r) => refused(out, r),
-            Layout::Read(t) => accepted(out, &numbers, t.sets as usize, t.facts as usize),
+            Layout::Read(trailer) => accepted(
+                out,
+                &numbers,
+                trailer.sets as usize,
+                trailer.facts as usize,
+            ),
         },
     }
 }

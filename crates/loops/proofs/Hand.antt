@@ -120,16 +120,16 @@ module _ {M : Type 1} {𝓤 : URA M} {H : Heap 𝓤} {A : Atoms 𝓤} {K : Type 
       → Seq K W (‵ (typeAt (T .signature .result) (y .0 .0) .own r (v ∷ [])) ∷ raw (alive 𝓤 H A (T .signature) (y .0 .0) (y .0 .1)) ∷ Γ)
       (lands C Λ E d v rest q))
       → Seq K W (raw (tripleOf 𝓤 H A (T .signature) (closing 𝓤 H A T c) .pre y) ∷ Γ) (runs C Λ E (seq (call f xs d) rest) q)
-  calls-fn t fm T c known y φ said os then =
-      calls-at t fm (tripleOf 𝓤 H A (T .signature) (closing 𝓤 H A T c)) known y os (λ v.
+  calls-fn trailer fm T c known y φ said os then =
+      calls-at trailer fm (tripleOf 𝓤 H A (T .signature) (closing 𝓤 H A T c)) known y os (λ v.
       use1 W (later (some (λ (r : Res (T .signature) (y .0 .0)).
       (raw (alive 𝓤 H A (T .signature) (y .0 .0) (y .0 .1)) ⊛ ‵ (typeAt (T .signature .result) (y .0 .0) .own r (v ∷ [])))
       ⊛ raw (ensured 𝓤 H A T c (y .0 .0) (y .0 .3) (y .1) r)))) (id⊢ 𝓤 _) $
-      await t tt $ pick t (λ r. split t $ move t (1 ∷ []) $
+      await trailer tt $ pick trailer (λ r. split trailer $ move trailer (1 ∷ []) $
       use1 W (raw (fact 𝓤 (φ r))) (exE 𝓤 _ (λ ws. via 𝓤 _
       (snd∗ 𝓤 (sem 𝓤 H A (lasts T (y .0 .0) (y .0 .3) ws)) (c (y .0 .0) (y .0 .3) .ensures (y .1) r (atExit T (y .0 .0) (y .0 .3) ws)))
       (said r ws))) $
-      heard t (φ r) (λ e. split t $ move t (1 ∷ 0 ∷ []) $ then v r e)))
+      heard trailer (φ r) (λ e. split trailer $ move trailer (1 ∷ 0 ∷ []) $ then v r e)))
 
   module _ {G : Goal 𝓤 H} (D : Declared) (L : LL.Laws D) where
     -- element i of a `&κ [D]`: a share of its cell, at its machine value
@@ -140,14 +140,14 @@ module _ {M : Type 1} {𝓤 : URA M} {H : Heap 𝓤} {A : Atoms 𝓤} {K : Type 
         ∷ ‵ (others (shares (row D)) q′ ys i b o) ∷ ‵ (fobor κ q (arr-parts (shares (row D)) (length ys) .part q′ ys b o))
         ∷ ‵ (fshr-bor κ (λ s. arr-parts (shares (row D)) (length ys) .part s ys b o)) ∷ Γ) G)
         → Seq K W (‵ (fshr-bor κ (λ s. arr-parts (shares (row D)) (length ys) .part s ys b o)) ∷ ‵ (flft κ q) ∷ Γ) G
-    reads-elem t z cs ys i d b o l then =
-        looks-slice t z (row D) (Is (row D)) (shows 𝓤 H A (row D)) (LL.vals D L) (LL.tells D L) (LL.copy D cs 𝓤 H A W) ys b o
-        (λ q′. elem-out t (row D) (Is (row D)) (shows 𝓤 H A (row D)) (LL.vals D L) (LL.tells D L) q′ ys i d b o l (then q′))
+    reads-elem trailer z cs ys i d b o l then =
+        looks-slice trailer z (row D) (Is (row D)) (shows 𝓤 H A (row D)) (LL.vals D L) (LL.tells D L) (LL.copy D cs 𝓤 H A W) ys b o
+        (λ q′. elem-out trailer (row D) (Is (row D)) (shows 𝓤 H A (row D)) (LL.vals D L) (LL.tells D L) q′ ys i d b o l (then q′))
 
     -- and back
     pub shuts-elem : K → Soaks G → {κ : Lft} {q : Share} (q′ : Share) (ys : List (D .D)) (i : ℕ) (d : D .D) (b o : ℕ) → i < length ys
         → Step K W (‵ (flft κ q) ∷ Γ) G (‵ (cellAt q′ (row D .mir) (LL.vals D L (getD ys i d)) b (place (mem (row D) .size) o i))
         ∷ ‵ (row D .own (getD ys i d) (LL.vals D L (getD ys i d)))
         ∷ ‵ (others (shares (row D)) q′ ys i b o) ∷ ‵ (fobor κ q (arr-parts (shares (row D)) (length ys) .part q′ ys b o)) ∷ Γ) G
-    shuts-elem t z q′ ys i d b o l =
-        step (λ s. elem-back t (row D) q′ ys i d (LL.vals D L (getD ys i d)) b o l $ shuts-slice t z (row D) q′ ys b o $ s)
+    shuts-elem trailer z q′ ys i d b o l =
+        step (λ s. elem-back trailer (row D) q′ ys i d (LL.vals D L (getD ys i d)) b o l $ shuts-slice trailer z (row D) q′ ys b o $ s)

@@ -14,17 +14,17 @@ use Rattle.loops.specs.Handed.{Handed}
 use Rattle.loops.proofs.Shown.{counts-agree}
 
 -- the first k of the file's loops are read
-pub record Read (f : List ℕ) (t : Trailer) (k : ℕ) (loops : List Loop) : Type 0 where
-  pub within : k ≤ t .loops
+pub record Read (f : List ℕ) (trailer : Trailer) (k : ℕ) (loops : List Loop) : Type 0 where
+  pub within : k ≤ trailer .loops
   pub room : length loops ≡ 64
-  pub at : (j : ℕ) → j < k → getD loops j noLoop ≡ loopAt f t j
+  pub at : (j : ℕ) → j < k → getD loops j noLoop ≡ loopAt f trailer j
 
-module _ (f : List ℕ) (t : Trailer) where
-  pub read-start : (loops : List Loop) → length loops ≡ 64 → Read f t 0 loops
+module _ (f : List ℕ) (trailer : Trailer) where
+  pub read-start : (loops : List Loop) → length loops ≡ 64 → Read f trailer 0 loops
   read-start loops h = record { within = omega arith; room = h; at = λ j q. absurd (omega arith) }
 
-  pub read-more : (k : ℕ) (loops : List Loop) (l : Loop) → Read f t k loops → k < t .loops → t .loops ≤ 64 → l ≡ loopAt f t k
-      → Read f t (k + 1) (set loops k l)
+  pub read-more : (k : ℕ) (loops : List Loop) (l : Loop) → Read f trailer k loops → k < trailer .loops → trailer .loops ≤ 64 → l ≡ loopAt f trailer k
+      → Read f trailer (k + 1) (set loops k l)
   read-more k loops l w q m e =
       record {
         within = omega arith;
@@ -36,17 +36,17 @@ module _ (f : List ℕ) (t : Trailer) where
             ];
       }
 
-  pub read-end : (k : ℕ) (loops : List Loop) → Read f t k loops → t .loops ≤ k → Handed f t loops
+  pub read-end : (k : ℕ) (loops : List Loop) → Read f trailer k loops → trailer .loops ≤ k → Handed f trailer loops
   read-end k loops w h = record { room = w .room; at = λ j q. w .at j (omega arith) }
 
-  module _ (loops : List Loop) (w : Handed f t loops) where
+  module _ (loops : List Loop) (w : Handed f trailer loops) where
     -- a count over the records is one over the case's loops
-    handed-count : (v n : ℕ) → n ≤ t .loops → countIn loops n v ≡ countTo (caseOf f t) v n
+    handed-count : (v n : ℕ) → n ≤ trailer .loops → countIn loops n v ≡ countTo (caseOf f trailer) v n
     unfolding countTo caseOf
-    handed-count v n h = counts-agree loops (loopAt f t) n v (λ j q. w .at j (omega arith))
+    handed-count v n h = counts-agree loops (loopAt f trailer) n v (λ j q. w .at j (omega arith))
 
     -- and so is that of loop j's header
-    pub handed-header : (j : ℕ) → j < t .loops
-        → countIn loops (suc j) (getD loops j noLoop .first) ≡ countTo (caseOf f t) (caseOf f t .loop j .first) (suc j)
+    pub handed-header : (j : ℕ) → j < trailer .loops
+        → countIn loops (suc j) (getD loops j noLoop .first) ≡ countTo (caseOf f trailer) (caseOf f trailer .loop j .first) (suc j)
     unfolding caseOf
-    handed-header j q = rw (w .at j q) (handed-count (loopAt f t j .first) (suc j) q)
+    handed-header j q = rw (w .at j q) (handed-count (loopAt f trailer j .first) (suc j) q)

@@ -42,27 +42,27 @@ module _ {M : Type 1} {𝓤 : URA M} {H : Heap 𝓤} {A : Atoms 𝓤} {K : Type 
       ∷ ‵ (flent κ (front R k xs b)) ∷ ‵ (others R k xs b) ∷ Γ) G)
       → Seq K W (‵ (fat fullShare (tyArray (lone (R .mir)) m) b zero v) ∷ ‵ (Array R m .own xs (v ∷ [])) ∷ Γ) G
   unfolding partOf
-  lends-front t z R one m xs v b k κ rm then =
+  lends-front trailer z R one m xs v b k κ rm then =
       use1 W (‵ (cellAt fullShare (tyArray (lone (R .mir)) m ∷ []) (v ∷ []) b zero))
-      (W .laws .at-raw fullShare (tyArray (lone (R .mir)) m) b zero v) $ fjoin t $
-      fpack t (List Val) (λ vs. fsep (cellAt fullShare (tyArray (lone (R .mir)) m ∷ []) vs b zero) (Array R m .own xs vs)) (v ∷ []) $
-      use1 W (‵ (arr-parts (shares R) m .part fullShare xs b zero)) (array-apart 𝓤 H A W R fullShare one m xs b zero) $ fsplit t $ drop t $
-      rewrite t 0 (λ (F : Fml). ‵ F) (parts-cells R fullShare xs b zero) refl $
-      rewrite t 0 (λ (ys : List (R .Denot)). ‵ (cells (mem R) ys b zero)) (sym (take-append-drop k xs)) refl $
-      use1 W (‵ (cells (mem R) (take k xs) b zero) ⊛ ‵ (others R k xs b)) (cut-app 𝓤 H A (mem R) (take k xs) (drop-list k xs) b zero) $ split t $
-      rewrite t 0 (λ (F : Fml). ‵ F) (sym (parts-cells R fullShare (take k xs) b zero)) refl $
-      feqI t ℕ (length (take k xs)) (length (take k xs)) refl $ fjoin t $
+      (W .laws .at-raw fullShare (tyArray (lone (R .mir)) m) b zero v) $ fjoin trailer $
+      fpack trailer (List Val) (λ vs. fsep (cellAt fullShare (tyArray (lone (R .mir)) m ∷ []) vs b zero) (Array R m .own xs vs)) (v ∷ []) $
+      use1 W (‵ (arr-parts (shares R) m .part fullShare xs b zero)) (array-apart 𝓤 H A W R fullShare one m xs b zero) $ fsplit trailer $ drop trailer $
+      rewrite trailer 0 (λ (F : Fml). ‵ F) (parts-cells R fullShare xs b zero) refl $
+      rewrite trailer 0 (λ (ys : List (R .Denot)). ‵ (cells (mem R) ys b zero)) (sym (take-append-drop k xs)) refl $
+      use1 W (‵ (cells (mem R) (take k xs) b zero) ⊛ ‵ (others R k xs b)) (cut-app 𝓤 H A (mem R) (take k xs) (drop-list k xs) b zero) $ split trailer $
+      rewrite trailer 0 (λ (F : Fml). ‵ F) (sym (parts-cells R fullShare (take k xs) b zero)) refl $
+      feqI trailer ℕ (length (take k xs)) (length (take k xs)) refl $ fjoin trailer $
       use1 W (later (some (λ (γ : GName).
       ‵ (ShrSlice (named 0) κ R .own (record { ptr = (b, zero); name = γ; now = take k xs }) (sliceVal (b, zero) (length (take k xs)) ∷ []))
       ⊛ ‵ (flent κ (front R k xs b)))))
-      (lends-shr-slice 𝓤 H A W R (named 0) κ fullShare (take k xs) b zero rm) $ await t z $ pick t (λ γ. split t $ then γ)
+      (lends-shr-slice 𝓤 H A W R (named 0) κ fullShare (take k xs) b zero rm) $ await trailer z $ pick trailer (λ γ. split trailer $ then γ)
 
   pub comes-home : K → Soaks G → (R : RattleType) (m : ℕ) (xs : List (R .Denot)) (b k : ℕ) (κ : Lft) → length xs ≡ m
       → Step K W (‵ (froom (tyArray (lone (R .mir)) m) b zero) ∷ Γ) G (‵ (fdead κ) ∷ ‵ (flent κ (front R k xs b)) ∷ ‵ (others R k xs b) ∷ Γ) G
-  comes-home t z R m xs b k κ l = step (λ s. lent-back t z $ fsplit t $ drop t $
-      rewrite t 0 (λ (F : Fml). ‵ F) (parts-cells R fullShare (take k xs) b zero) refl $
+  comes-home trailer z R m xs b k κ l = step (λ s. lent-back trailer z $ fsplit trailer $ drop trailer $
+      rewrite trailer 0 (λ (F : Fml). ‵ F) (parts-cells R fullShare (take k xs) b zero) refl $
       use2 W (‵ (cells (mem R) (take k xs ++ drop-list k xs) b zero)) (join-app 𝓤 H A (mem R) (take k xs) (drop-list k xs) b zero) $
-      rewrite t 0 (λ (ys : List (R .Denot)). ‵ (cells (mem R) ys b zero)) (take-append-drop k xs) refl $
-      rewrite t 0 (λ (F : Fml). ‵ F) (sym (parts-cells R fullShare xs b zero)) refl $
-      feqI t ℕ (length xs) m l $ fjoin t $ use1 W (‵ (partAt (Array R m) fullShare xs b zero)) (array-whole 𝓤 H A W R fullShare m xs b zero) $
+      rewrite trailer 0 (λ (ys : List (R .Denot)). ‵ (cells (mem R) ys b zero)) (take-append-drop k xs) refl $
+      rewrite trailer 0 (λ (F : Fml). ‵ F) (sym (parts-cells R fullShare xs b zero)) refl $
+      feqI trailer ℕ (length xs) m l $ fjoin trailer $ use1 W (‵ (partAt (Array R m) fullShare xs b zero)) (array-whole 𝓤 H A W R fullShare m xs b zero) $
       use1 W (‵ (froom (tyArray (lone (R .mir)) m) b zero)) (part-room 𝓤 H A W (Array R m) xs b zero) $ s)

@@ -9,6 +9,6 @@ use Rattle.paper.specs.Ceilings.{mostLoops}
 use Rattle.paper.specs.Files.{loopAt}
 use Rattle.loops.specs.Counts.{noLoop}
 
-pub record Handed (f : List ℕ) (t : Trailer) (loops : List Loop) : Type 0 where
+pub record Handed (f : List ℕ) (trailer : Trailer) (loops : List Loop) : Type 0 where
   pub room : length loops ≡ mostLoops
-  pub at : (j : ℕ) → j < t .loops → getD loops j noLoop ≡ loopAt f t j
+  pub at : (j : ℕ) → j < trailer .loops → getD loops j noLoop ≡ loopAt f trailer j

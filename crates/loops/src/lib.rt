@@ -46,9 +46,9 @@ pub fn count_in(loops: [Loop; MOST_LOOPS], n: usize, node: u16) -> u32
 }
 
 // The file's loops.
-pub fn loops_of(file: &[u8], t: Trailer) -> [Loop; MOST_LOOPS]
-    requires { ⌜ Laid (now file) t ⌝ }
-    ensures { λ r. ⌜ Handed (now (file .entry)) t r ⌝ }
+pub fn loops_of(file: &[u8], trailer: Trailer) -> [Loop; MOST_LOOPS]
+    requires { ⌜ Laid (now file) trailer ⌝ }
+    ensures { λ r. ⌜ Handed (now (file .entry)) trailer r ⌝ }
 {
     let mut loops = [Loop {
         first: 0,
@@ -56,8 +56,8 @@ pub fn loops_of(file: &[u8], t: Trailer) -> [Loop; MOST_LOOPS]
         bound: 0,
     }; MOST_LOOPS];
     let mut j: u16 = 0;
-    while j < t.loops {
-        loops[j as usize] = layout::loop_at(file, t, j);
+    while j < trailer.loops {
+        loops[j as usize] = layout::loop_at(file, trailer, j);
         j += 1;
     }
     loops

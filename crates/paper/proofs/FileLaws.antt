@@ -50,33 +50,33 @@ unfolding badLetters badLetter
 letters-says f = says-or (says-some (λ k. says-not (says-eq (u8At f (endAt f + Records.lettersField + k)) (getD letters k 0))) (length letters)) (says-not (says-eq _ _))
 
 -- 5
-pub offsets-says : (f : List ℕ) (t : Trailer) →
+pub offsets-says : (f : List ℕ) (trailer : Trailer) →
     Says
     (¬ (u32At f (endAt f) ≡ 0)
-    ⊎ (¬ (u32At f (endAt f + Records.edgesOffset) ≡ edgesAt t)
-    ⊎ (¬ (u32At f (endAt f + Records.loopsOffset) ≡ loopsAt t) ⊎ (¬ (u32At f (endAt f + Records.factsOffset) ≡ factsAt t) ⊎ (endAt f < factsAt t)))))
-    (badOffsets f t)
+    ⊎ (¬ (u32At f (endAt f + Records.edgesOffset) ≡ edgesAt trailer)
+    ⊎ (¬ (u32At f (endAt f + Records.loopsOffset) ≡ loopsAt trailer) ⊎ (¬ (u32At f (endAt f + Records.factsOffset) ≡ factsAt trailer) ⊎ (endAt f < factsAt trailer)))))
+    (badOffsets f trailer)
 unfolding badOffsets
-offsets-says f t =
+offsets-says f trailer =
     says-or (says-not (says-eq _ _))
     (says-or (says-not (says-eq _ _)) (says-or (says-not (says-eq _ _)) (says-or (says-not (says-eq _ _)) (says-lt _ _))))
 
 -- 4
-pub numbers-says : (t : Trailer) → Says ((t .nodes < 1) ⊎ ((mostNodes < t .nodes) ⊎ ((mostEdges < t .edges) ⊎ ((mostLoops < t .loops) ⊎ (mostFacts < t .facts))))) (badNumbers t)
+pub numbers-says : (trailer : Trailer) → Says ((trailer .nodes < 1) ⊎ ((mostNodes < trailer .nodes) ⊎ ((mostEdges < trailer .edges) ⊎ ((mostLoops < trailer .loops) ⊎ (mostFacts < trailer .facts))))) (badNumbers trailer)
 unfolding badNumbers
-numbers-says t = says-or (says-lt _ _) (says-or (says-lt _ _) (says-or (says-lt _ _) (says-or (says-lt _ _) (says-lt _ _))))
+numbers-says trailer = says-or (says-lt _ _) (says-or (says-lt _ _) (says-or (says-lt _ _) (says-or (says-lt _ _) (says-lt _ _))))
 
 -- A file that passes 1, 3, 4 and 5 is laid out as its trailer says.
-pub laid : (f : List ℕ) (t : Trailer) → Records.trailerSize ≤ length f → inRange (t .policy) (t .ways) (t .sets) ≡ true → badNumbers t ≡ false → badOffsets f t ≡ false → Laid f t
-laid f t long cache numbers offsets =
-    let n = says-false (numbers-says t) .0 numbers in
-    let c = says-true (says-range (t .policy) (t .ways) (t .sets)) cache in
-    let a : ¬ (t .nodes < 1) = λ p. n (inl p) in
-    let b : ¬ (mostNodes < t .nodes) = λ p. n (inr (inl p)) in
-    let d : ¬ (mostEdges < t .edges) = λ p. n (inr (inr (inl p))) in
-    let g : ¬ (mostLoops < t .loops) = λ p. n (inr (inr (inr (inl p)))) in
-    let h : ¬ (mostFacts < t .facts) = λ p. n (inr (inr (inr (inr p)))) in
-    let o : ¬ (endAt f < factsAt t) = λ q. says-false (offsets-says f t) .0 offsets (inr (inr (inr (inr q)))) in
+pub laid : (f : List ℕ) (trailer : Trailer) → Records.trailerSize ≤ length f → inRange (trailer .policy) (trailer .ways) (trailer .sets) ≡ true → badNumbers trailer ≡ false → badOffsets f trailer ≡ false → Laid f trailer
+laid f trailer long cache numbers offsets =
+    let n = says-false (numbers-says trailer) .0 numbers in
+    let c = says-true (says-range (trailer .policy) (trailer .ways) (trailer .sets)) cache in
+    let a : ¬ (trailer .nodes < 1) = λ p. n (inl p) in
+    let b : ¬ (mostNodes < trailer .nodes) = λ p. n (inr (inl p)) in
+    let d : ¬ (mostEdges < trailer .edges) = λ p. n (inr (inr (inl p))) in
+    let g : ¬ (mostLoops < trailer .loops) = λ p. n (inr (inr (inr (inl p)))) in
+    let h : ¬ (mostFacts < trailer .facts) = λ p. n (inr (inr (inr (inr p)))) in
+    let o : ¬ (endAt f < factsAt trailer) = λ q. says-false (offsets-says f trailer) .0 offsets (inr (inr (inr (inr q)))) in
     record {
       long = long;
       room = omega arith;

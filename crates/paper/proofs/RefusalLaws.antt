@@ -60,40 +60,40 @@ module _ (e : Case) where
       (one 6 _ (some (badLoop e) (e .loops))
       (one 7 _ (some (badEntry e) (e .edges)) (one 8 _ (some (badReturn e) (e .edges)) (one 9 _ (some (badCount e) (e .nodes)) p))))
 
-module _ (f : List ℕ) (t : Trailer) where
-  turn-numbered : (i : ℕ) (previous : Previous) (p : ℕ) (rest : Verdict) → Numbered 1 toldVerdict rest → Numbered 1 toldVerdict (turnRules f t i previous p rest)
+module _ (f : List ℕ) (trailer : Trailer) where
+  turn-numbered : (i : ℕ) (previous : Previous) (p : ℕ) (rest : Verdict) → Numbered 1 toldVerdict rest → Numbered 1 toldVerdict (turnRules f trailer i previous p rest)
   unfolding turnRules headRule orderRule bodyRules fetchRule rowRules stepRules manyRules
   turn-numbered i previous p rest h =
-      let e = caseOf f t in
+      let e = caseOf f trailer in
       let s = factAt f p in
       one 10 i (ltb (endAt f) (p + 6))
       (one 11 i (badHead e s)
       (one 12 i (badOrder e previous s)
       (one 13 i (unfetched e s)
-      (one 14 i (ltb (endAt f) (factEnd f t p))
+      (one 14 i (ltb (endAt f) (factEnd f trailer p))
       (one 15 i (some (badRowAt e s) (size (scopeOf e s)))
       (one 16 i (some (badStepAt e s) (e .edges)) (one 17 i (some (badManyAt e s) (size (scopeOf e s))) h)))))))
 
-  turns-numbered : (n i : ℕ) (previous : Previous) (p : ℕ) (rest : Verdict) → Numbered 1 toldVerdict rest → Numbered 1 toldVerdict (turnsFrom f t n i previous p rest)
+  turns-numbered : (n i : ℕ) (previous : Previous) (p : ℕ) (rest : Verdict) → Numbered 1 toldVerdict rest → Numbered 1 toldVerdict (turnsFrom f trailer n i previous p rest)
   unfolding turnsFrom
   turns-numbered zero i previous p rest h = h
   turns-numbered (suc n) i previous p rest h =
-      turn-numbered i previous p _ (turns-numbered n (suc i) (previousOf (caseOf f t) (factAt f p)) (factEnd f t p) rest h)
+      turn-numbered i previous p _ (turns-numbered n (suc i) (previousOf (caseOf f trailer) (factAt f p)) (factEnd f trailer p) rest h)
 
-  facts-numbered : (rest : Verdict) → Numbered 1 toldVerdict rest → Numbered 1 toldVerdict (factRules f t rest)
+  facts-numbered : (rest : Verdict) → Numbered 1 toldVerdict rest → Numbered 1 toldVerdict (factRules f trailer rest)
   unfolding factRules
-  facts-numbered rest h = turns-numbered (t .facts) 0 nonePrevious (factsAt t) _ (one 18 0 (ltb (factPlace f t (t .facts)) (endAt f)) h)
+  facts-numbered rest h = turns-numbered (trailer .facts) 0 nonePrevious (factsAt trailer) _ (one 18 0 (ltb (factPlace f trailer (trailer .facts)) (endAt f)) h)
 
 pub verdict-numbered : (f : List ℕ) (room : ℕ) → Numbered 1 toldVerdict (verdict f room)
 unfolding verdict layoutRules
 verdict-numbered f room =
-    let t = trailerOf f in
+    let trailer = trailerOf f in
     one 19 0 (ltb room 321)
     (one 0 0 (ltb (length f) 32)
     (one 1 0 (badLetters f)
-    (one 2 0 (badCache t)
-    (one 3 0 (badNumbers t)
-    (one 4 0 (badOffsets f t) (graph-numbered (readCase f) _ (facts-numbered f t Accepted (plain 1 toldVerdict Accepted [] refl))))))))
+    (one 2 0 (badCache trailer)
+    (one 3 0 (badNumbers trailer)
+    (one 4 0 (badOffsets f trailer) (graph-numbered (readCase f) _ (facts-numbered f trailer Accepted (plain 1 toldVerdict Accepted [] refl))))))))
 
 abbrev pub runTold : Run → Told
 runTold r = toldTrace (r .answer)

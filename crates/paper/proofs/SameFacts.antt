@@ -73,12 +73,12 @@ module _ (e d : Case) (s : SameGraph e d) (t u : Fact) (f : SameFact (size (scop
     unfolding breaks
     breaks-same = rw (lacks-same, a .number, b .number, f .block) refl
 
-  module _ (k : Shaped e) (some-node : 1 ≤ e .nodes) (there : t .scope ≢ none → t .scope < e .loops) where
+  module _ (shaped : Shaped e) (some-node : 1 ≤ e .nodes) (there : t .scope ≢ none → t .scope < e .loops) where
     pub scope-same : scopeOf e t ≡ scopeOf d u
     scope-same = rw (← f .scope) (range-same e d s (t .scope) there)
 
     low : (v : ℕ) → In (scopeOf e t) v → v < e .nodes
-    low = range-low e k some-node (t .scope) there
+    low = range-low e shaped some-node (t .scope) there
 
     -- 14
     fetches-same : (j : ℕ) → j < size (scopeOf e t) → fetches e t j ≡ fetches d u j

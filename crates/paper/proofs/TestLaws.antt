@@ -20,9 +20,9 @@ use Rattle.paper.proofs.GraphLaws.{inside-says}
 use Rattle.paper.proofs.RowLaws.{Breaks, breaks-says, row-law}
 
 -- 3
-pub cache-says : (t : Trailer) → Says (¬ (Offered (t .policy) (t .ways) × ((0 < t .sets) × (t .sets ≤ 64)))) (badCache t)
+pub cache-says : (trailer : Trailer) → Says (¬ (Offered (trailer .policy) (trailer .ways) × ((0 < trailer .sets) × (trailer .sets ≤ 64)))) (badCache trailer)
 unfolding badCache
-cache-says t = says-not (says-range _ _ _)
+cache-says trailer = says-not (says-range _ _ _)
 
 -- the walk is outside the loop after a visit of u
 pub outside-says : (l : Loop) (u : ℕ) → Says (¬ In l u) (outside l (some u))

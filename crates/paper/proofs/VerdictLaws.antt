@@ -83,71 +83,71 @@ module _ (e : Case) where
       hands-then _ _ (hands-rule 16 i (some (badRowAt e t) (size (scopeOf e t))))
       (hands-then _ _ (hands-rule 17 i (some (badStepAt e t) (e .edges))) (hands-rule 18 i (some (badManyAt e t) (size (scopeOf e t)))))
 
-module _ (f : List ℕ) (t : Trailer) where
+module _ (f : List ℕ) (trailer : Trailer) where
   -- The fact that stands at p passes its turn.
   pub record KeptFact (p : ℕ) : Type 0 where
-    pub room : factEnd f t p ≤ endAt f
-    pub sound : SoundFact (caseOf f t) (factAt f p)
+    pub room : factEnd f trailer p ≤ endAt f
+    pub sound : SoundFact (caseOf f trailer) (factAt f p)
 
-  pub turn-kept : (i : ℕ) (previous : Previous) (p : ℕ) (rest : Verdict) → turnRules f t i previous p rest ≡ Accepted → KeptFact p × (rest ≡ Accepted)
+  pub turn-kept : (i : ℕ) (previous : Previous) (p : ℕ) (rest : Verdict) → turnRules f trailer i previous p rest ≡ Accepted → KeptFact p × (rest ≡ Accepted)
   unfolding turnRules headRule orderRule bodyRules fetchRule
   turn-kept i previous p rest h =
       let a = past 11 i (ltb (endAt f) (p + 6)) _ h in
-      let b = past 12 i (badHead (caseOf f t) (factAt f p)) _ (a .1) in
-      let c = past 13 i (badOrder (caseOf f t) previous (factAt f p)) _ (b .1) in
-      let d = past 14 i (unfetched (caseOf f t) (factAt f p)) _ (c .1) in
-      let g = past 15 i (ltb (endAt f) (factEnd f t p)) _ (d .1) in
-      let v = evidence-kept (caseOf f t) (factAt f p) i rest (g .1) in (
+      let b = past 12 i (badHead (caseOf f trailer) (factAt f p)) _ (a .1) in
+      let c = past 13 i (badOrder (caseOf f trailer) previous (factAt f p)) _ (b .1) in
+      let d = past 14 i (unfetched (caseOf f trailer) (factAt f p)) _ (c .1) in
+      let g = past 15 i (ltb (endAt f) (factEnd f trailer p)) _ (d .1) in
+      let v = evidence-kept (caseOf f trailer) (factAt f p) i rest (g .1) in (
         record {
           room = ltb-false _ _ (g .0);
           sound =
               record {
-                head = head-sound (caseOf f t) (factAt f p) (b .0);
-                fetched = fetched (caseOf f t) (factAt f p) (d .0);
+                head = head-sound (caseOf f trailer) (factAt f p) (b .0);
+                fetched = fetched (caseOf f trailer) (factAt f p) (d .0);
                 evidence = v .0;
               };
         },
         v .1,
       )
 
-  pub turns-kept : (n i : ℕ) (previous : Previous) (rest : Verdict) → turnsFrom f t n i previous (factPlace f t i) rest ≡ Accepted →
-      ((k : ℕ) → i ≤ k → k < i + n → KeptFact (factPlace f t k)) × (rest ≡ Accepted)
+  pub turns-kept : (n i : ℕ) (previous : Previous) (rest : Verdict) → turnsFrom f trailer n i previous (factPlace f trailer i) rest ≡ Accepted →
+      ((k : ℕ) → i ≤ k → k < i + n → KeptFact (factPlace f trailer k)) × (rest ≡ Accepted)
   unfolding turnsFrom factPlace
   turns-kept zero i previous rest h = (λ k l q. absurd (omega arith), h)
   turns-kept (suc n) i previous rest h =
-      let a = turn-kept i previous (factPlace f t i) _ h in
+      let a = turn-kept i previous (factPlace f trailer i) _ h in
       let b = turns-kept n (suc i) _ rest (a .1) in (
         λ k l q. elim (ℕ-discrete k i) [ yes e ↦ rw e (a .0) | no e ↦ b .0 k (omega arith) (omega arith) ],
         b .1,
       )
 
-  pub facts-kept : (rest : Verdict) → factRules f t rest ≡ Accepted → (i : ℕ) → i < t .facts → KeptFact (factPlace f t i)
+  pub facts-kept : (rest : Verdict) → factRules f trailer rest ≡ Accepted → (i : ℕ) → i < trailer .facts → KeptFact (factPlace f trailer i)
   unfolding factRules factPlace
-  facts-kept rest h i l = turns-kept (t .facts) 0 _ _ h .0 i (omega arith) (omega arith)
+  facts-kept rest h i l = turns-kept (trailer .facts) 0 _ _ h .0 i (omega arith) (omega arith)
 
-  pub hands-body : (i p : ℕ) → Hands (bodyRules f t i p)
+  pub hands-body : (i p : ℕ) → Hands (bodyRules f trailer i p)
   unfolding bodyRules fetchRule
   hands-body i p =
-      hands-then _ _ (hands-rule 14 i (unfetched (caseOf f t) (factAt f p)))
-      (hands-then _ _ (hands-rule 15 i (ltb (endAt f) (factEnd f t p))) (hands-evidence (caseOf f t) i (factAt f p)))
+      hands-then _ _ (hands-rule 14 i (unfetched (caseOf f trailer) (factAt f p)))
+      (hands-then _ _ (hands-rule 15 i (ltb (endAt f) (factEnd f trailer p))) (hands-evidence (caseOf f trailer) i (factAt f p)))
 
-  pub hands-turn : (i : ℕ) (previous : Previous) (p : ℕ) → Hands (turnRules f t i previous p)
+  pub hands-turn : (i : ℕ) (previous : Previous) (p : ℕ) → Hands (turnRules f trailer i previous p)
   unfolding turnRules headRule orderRule
   hands-turn i previous p =
       hands-then _ _ (hands-rule 11 i (ltb (endAt f) (p + 6)))
-      (hands-then _ _ (hands-rule 12 i (badHead (caseOf f t) (factAt f p)))
-      (hands-then _ _ (hands-rule 13 i (badOrder (caseOf f t) previous (factAt f p))) (hands-body i p)))
+      (hands-then _ _ (hands-rule 12 i (badHead (caseOf f trailer) (factAt f p)))
+      (hands-then _ _ (hands-rule 13 i (badOrder (caseOf f trailer) previous (factAt f p))) (hands-body i p)))
 
   -- the verdict of one turn is v: where it accepts it is the next fact's turn
-  module _ (n i : ℕ) (previous : Previous) (p : ℕ) (rest v : Verdict) (a : v ≡ turnRules f t i previous p Accepted) where
+  module _ (n i : ℕ) (previous : Previous) (p : ℕ) (rest v : Verdict) (a : v ≡ turnRules f trailer i previous p Accepted) where
     pub turns-on : v ≡ Accepted →
-        turnsFrom f t (suc n) i previous p rest ≡ turnsFrom f t n (suc i) (previousOf (caseOf f t) (factAt f p)) (factEnd f t p) rest
+        turnsFrom f trailer (suc n) i previous p rest ≡ turnsFrom f trailer n (suc i) (previousOf (caseOf f trailer) (factAt f p)) (factEnd f trailer p) rest
     unfolding turnsFrom
-    turns-on e = accepted-on (turnRules f t i previous p) (hands-turn i previous p) _ v a e
+    turns-on e = accepted-on (turnRules f trailer i previous p) (hands-turn i previous p) _ v a e
 
-    pub turns-stop : (r : Refusal) → v ≡ Refused r → turnsFrom f t (suc n) i previous p rest ≡ Refused r
+    pub turns-stop : (r : Refusal) → v ≡ Refused r → turnsFrom f trailer (suc n) i previous p rest ≡ Refused r
     unfolding turnsFrom
-    turns-stop r e = refused-on (turnRules f t i previous p) (hands-turn i previous p) _ v a r e
+    turns-stop r e = refused-on (turnRules f trailer i previous p) (hands-turn i previous p) _ v a r e
 
 -- An accepted file holds a sound case.
 pub file-sound : (f : List ℕ) → fileVerdict f ≡ Accepted → Laid f (trailerOf f) × Sound (readCase f)

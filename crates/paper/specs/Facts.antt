@@ -13,7 +13,7 @@ held r = cond (ltb (r .number) 8) (r .number) 0
 
 -- The row holds the block x.
 unfoldable pub holds : Row → ℕ → Bool
-holds r x = some (λ k. eqb (r .slot k) x) (held r)
+holds r x = some (λ i. eqb (r .slot i) x) (held r)
 
 -- 12: "its loop number, block or l out of range", of a head with the loop number w, the block b and the limit l
 unfoldable pub wrongHead : ℕ → ℕ → ℕ → ℕ → ℕ → Bool
@@ -47,11 +47,11 @@ module _ (e : Case) where
 
     -- "strictly rising, each of b's set, none equal to b or none; free slots are 65,535"
     unfoldable pub badSlot : Row → ℕ → Bool
-    badSlot r k =
-        cond (ltb k (held r))
-        (eqb (r .slot k) none
-        || (eqb (r .slot k) (t .block) || (not (sameSet e (r .slot k) (t .block)) || (ltb 0 k && leb (r .slot k) (r .slot (k - 1))))))
-        (not (eqb (r .slot k) none))
+    badSlot r i =
+        cond (ltb i (held r))
+        (eqb (r .slot i) none
+        || (eqb (r .slot i) (t .block) || (not (sameSet e (r .slot i) (t .block)) || (ltb 0 i && leb (r .slot i) (r .slot (i - 1))))))
+        (not (eqb (r .slot i) none))
 
     -- 16, "at most l-1 blocks … A row whose number is above 9 is not sound."
     unfoldable pub badRow : Row → Bool
@@ -62,7 +62,7 @@ module _ (e : Case) where
 
     -- row s lacks a block of row r, or the block x "where u fetches one of b's set"
     unfoldable pub lacks : ℕ → Row → Row → Bool
-    lacks x r s = some (λ k. not (holds s (r .slot k))) (held r) || (not (eqb x none) && (sameSet e x (t .block) && not (holds s x)))
+    lacks x r s = some (λ i. not (holds s (r .slot i))) (held r) || (not (eqb x none) && (sameSet e x (t .block) && not (holds s x)))
 
     -- 17, for an edge u to v inside the scope, where u fetches x and has row r, and v has row s:
     -- "u fetches b: row v is not 9"; "else row u is 9: nothing is required"; "else row u is 8: row v is 8";

@@ -48,7 +48,7 @@ abbrev pub version : ℕ
 version = 1
 
 unfoldable pub badLetter : List ℕ → ℕ → Bool
-badLetter f k = not (eqb (u8At f (endAt f + Records.lettersField + k)) (getD letters k 0))
+badLetter f i = not (eqb (u8At f (endAt f + Records.lettersField + i)) (getD letters i 0))
 
 -- 2: "letters or version wrong"
 unfoldable pub badLetters : List ℕ → Bool
@@ -88,12 +88,12 @@ badOffsets f trailer =
     || (not (eqb (u32At f (endAt f + Records.edgesOffset)) (edgesAt trailer))
     || (not (eqb (u32At f (endAt f + Records.loopsOffset)) (loopsAt trailer)) || (not (eqb (u32At f (endAt f + Records.factsOffset)) (factsAt trailer)) || ltb (endAt f) (factsAt trailer))))
 
--- "the number and seven slots": slot k of the row that stands at p
+-- "the number and seven slots": slot i of the row that stands at p
 abbrev pub slotPlace : ℕ → ℕ → ℕ
-slotPlace p k = p + Records.slotsField + Records.bits16 * k
+slotPlace p i = p + Records.slotsField + Records.bits16 * i
 
 abbrev pub rowAt : List ℕ → ℕ → Row
-rowAt f p = record { number = u16At f p; slot = λ k. u16At f (slotPlace p k) }
+rowAt f p = record { number = u16At f p; slot = λ i. u16At f (slotPlace p i) }
 
 -- where the head of the fact that stands at p ends, and its row j stands
 abbrev pub headEnd : ℕ → ℕ

@@ -6,8 +6,8 @@ use lib.Dec.{ltb}
 
 unfoldable pub leastFrom : (ℕ → Bool) → ℕ → ℕ → ℕ
 leastFrom p i zero = i
-leastFrom p i (suc k) =
-    let r = leastFrom p (suc i) k in
+leastFrom p i (suc n) =
+    let r = leastFrom p (suc i) n in
     cond (p i) i r
 
 -- The least i below n at which p holds, and n where there is none.

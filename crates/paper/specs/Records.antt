@@ -17,11 +17,11 @@ abbrev pub sizeOf : List ℕ → ℕ
 sizeOf [] = 0
 sizeOf (width ∷ fields) = width + sizeOf fields
 
--- where its field k begins
+-- where its field i begins
 abbrev pub offset : List ℕ → ℕ → ℕ
-offset [] k = 0
+offset [] i = 0
 offset (width ∷ fields) zero = 0
-offset (width ∷ fields) (suc k) = width + offset fields k
+offset (width ∷ fields) (suc i) = width + offset fields i
 
 -- "nodes (16-bit block each)"
 abbrev pub nodeFields : List ℕ

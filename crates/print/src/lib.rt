@@ -27,8 +27,8 @@ pub fn number(out: &mut [u8], at: usize, n: u64) -> usize
     ensures { λ r. ⌜ Put (now (out .entry)) at (decimal n) r (now (out .exit)) ⌝ }
 {
     let mut digits = [0u8; 20];
-    let k = io::decimal(n, &mut digits);
-    word(out, at, &digits[..k])
+    let length = io::decimal(n, &mut digits);
+    word(out, at, &digits[..length])
 }
 
 // A line with one number.

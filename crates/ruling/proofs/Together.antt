@@ -18,38 +18,38 @@ use Rattle.charge.specs.Placed.{Placed}
 use Rattle.ruling.specs.Ruled.{Ruled}
 
 -- the graph's verdict is v
-module _ (f : List ℕ) (t : Trailer) (v : Verdict) (a : v ≡ graphRules (caseOf f t) Accepted) where
-  pub graph-refused : (lent : List ℕ) (r : Refusal) → v ≡ Refused r → Ruled f t lent (Refused r) lent
-  graph-refused lent r e = record { answer = sym (refused-on (graphRules (caseOf f t)) (hands-graph (caseOf f t)) _ v a r e); numbers = refl }
+module _ (f : List ℕ) (trailer : Trailer) (v : Verdict) (a : v ≡ graphRules (caseOf f trailer) Accepted) where
+  pub graph-refused : (lent : List ℕ) (r : Refusal) → v ≡ Refused r → Ruled f trailer lent (Refused r) lent
+  graph-refused lent r e = record { answer = sym (refused-on (graphRules (caseOf f trailer)) (hands-graph (caseOf f trailer)) _ v a r e); numbers = refl }
 
   module _ (e : v ≡ Accepted) where
-    pub graph-shaped : Shaped (caseOf f t)
-    graph-shaped = graph-kept (caseOf f t) Accepted (sym a ∙ e) .0
+    pub graph-shaped : Shaped (caseOf f trailer)
+    graph-shaped = graph-kept (caseOf f trailer) Accepted (sym a ∙ e) .0
 
-    onward : (rest : Verdict) → graphRules (caseOf f t) rest ≡ rest
-    onward rest = accepted-on (graphRules (caseOf f t)) (hands-graph (caseOf f t)) rest v a e
+    onward : (rest : Verdict) → graphRules (caseOf f trailer) rest ≡ rest
+    onward rest = accepted-on (graphRules (caseOf f trailer)) (hands-graph (caseOf f trailer)) rest v a e
 
     -- the facts' verdict is w
-    module _ (w : Verdict) (b : w ≡ factRules f t Accepted) where
-      pub facts-refused : (lent : List ℕ) (r : Refusal) → w ≡ Refused r → Ruled f t lent (Refused r) lent
+    module _ (w : Verdict) (b : w ≡ factRules f trailer Accepted) where
+      pub facts-refused : (lent : List ℕ) (r : Refusal) → w ≡ Refused r → Ruled f trailer lent (Refused r) lent
       facts-refused lent r g = record { answer = sym (onward _ ∙ sym b ∙ g); numbers = refl }
 
       module _ (g : w ≡ Accepted) where
-        kept : (i : ℕ) → i < t .facts → KeptFact f t (factPlace f t i)
-        kept = facts-kept f t Accepted (sym b ∙ g)
+        kept : (i : ℕ) → i < trailer .facts → KeptFact f trailer (factPlace f trailer i)
+        kept = facts-kept f trailer Accepted (sym b ∙ g)
 
-        pub case-sound : Laid f t → Sound (caseOf f t)
+        pub case-sound : Laid f trailer → Sound (caseOf f trailer)
         unfolding caseOf
         case-sound l =
             record {
               cache = l .cache;
               nodes = l .nodes-low;
-              graph = graph-kept (caseOf f t) Accepted (sym a ∙ e) .1;
+              graph = graph-kept (caseOf f trailer) Accepted (sym a ∙ e) .1;
               facts = λ i h. kept i h .sound;
             }
 
-        pub facts-placed : Placed f t
+        pub facts-placed : Placed f trailer
         facts-placed = record { ends = λ i h. kept i h .room }
 
-        pub judged : (lent after : List ℕ) → after ≡ numbers (caseOf f t) ++ drop 321 lent → Ruled f t lent Accepted after
+        pub judged : (lent after : List ℕ) → after ≡ numbers (caseOf f trailer) ++ drop 321 lent → Ruled f trailer lent Accepted after
         judged lent after n = record { answer = sym (onward _ ∙ sym b ∙ g); numbers = n }

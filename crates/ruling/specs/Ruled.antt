@@ -12,9 +12,9 @@ use Rattle.paper.specs.Verdicts.{graphRules, factRules}
 
 -- the lent list afterwards
 abbrev pub written : List ℕ → Trailer → List ℕ → Verdict → List ℕ
-written f t lent Accepted = numbers (caseOf f t) ++ drop listLength lent
-written f t lent (Refused r) = lent
+written f trailer lent Accepted = numbers (caseOf f trailer) ++ drop listLength lent
+written f trailer lent (Refused r) = lent
 
-pub record Ruled (f : List ℕ) (t : Trailer) (lent : List ℕ) (r : Verdict) (after : List ℕ) : Type 0 where
-  pub answer : r ≡ graphRules (caseOf f t) (factRules f t Accepted)
-  pub numbers : after ≡ written f t lent r
+pub record Ruled (f : List ℕ) (trailer : Trailer) (lent : List ℕ) (r : Verdict) (after : List ℕ) : Type 0 where
+  pub answer : r ≡ graphRules (caseOf f trailer) (factRules f trailer Accepted)
+  pub numbers : after ≡ written f trailer lent r

@@ -9,20 +9,20 @@ use paper::Trailer;
 use paper::Verdict;
 
 // Rules 6 to 19 and the 321 numbers, for a file that passes rules 1 to 5.
-pub fn rule_on(file: &[u8], t: Trailer, numbers: &mut [u64]) -> Verdict
-    requires { ⌜ Laid (now file) t ⌝ }
+pub fn rule_on(file: &[u8], trailer: Trailer, numbers: &mut [u64]) -> Verdict
+    requires { ⌜ Laid (now file) trailer ⌝ }
     requires { ⌜ listLength ≤ length (now numbers) ⌝ }
-    ensures { λ r. ⌜ Ruled (now (file .entry)) t (now (numbers .entry)) r (now (numbers .exit)) ⌝ }
+    ensures { λ r. ⌜ Ruled (now (file .entry)) trailer (now (numbers .entry)) r (now (numbers .exit)) ⌝ }
 {
     let mut counts: [u32; MOST_NODES] = [0; MOST_NODES];
-    let graph = graph::graph_rules(file, t, &mut counts);
+    let graph = graph::graph_rules(file, trailer, &mut counts);
     if let Verdict::Refused(r) = graph {
         return Verdict::Refused(r);
     }
-    let facts = facts::fact_rules(file, t);
+    let facts = facts::fact_rules(file, trailer);
     if let Verdict::Refused(r) = facts {
         return Verdict::Refused(r);
     }
-    charge::charge(file, t, &counts, numbers);
+    charge::charge(file, trailer, &counts, numbers);
     Verdict::Accepted
 }

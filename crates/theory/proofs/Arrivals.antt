@@ -35,9 +35,9 @@ abbrev credit : ℕ → ℕ → ℕ → Option ℕ → ℕ
 credit t a c none = c
 credit t a c (some u) = bit (leb a u && ltb u t)
 
-module _ (e : Case) (s : SoundGraph e) (w : List ℕ) (k : Walk e w) where
+module _ (e : Case) (s : SoundGraph e) (w : List ℕ) (walk : Walk e w) where
   pub stays-arrivals : (j : ℕ) → j < e .loops → stays (e .loop j) w ≤ arrivals (e .loop j .first) w
-  stays-arrivals j m = omega (arith, tally-le e (begins (e .loop j)) (arrives (e .loop j .first)) (λ p. 0) step none w k)
+  stays-arrivals j m = omega (arith, tally-le e (begins (e .loop j)) (arrives (e .loop j .first)) (λ p. 0) step none w walk)
     where
       step : (p : Option ℕ) (v : ℕ) → Step e p v → bit (begins (e .loop j) p v) + 0 ≤ bit (arrives (e .loop j .first) p v) + 0
       step none v d =
@@ -55,7 +55,7 @@ module _ (e : Case) (s : SoundGraph e) (w : List ℕ) (k : Walk e w) where
           )
 
   pub visits-arrivals : (t : ℕ) → ((j : ℕ) → j < e .loops → t ≢ e .loop j .first) → visits t w ≤ arrivals t w
-  visits-arrivals t plain = omega (arith, tally-visits t none w, tally-le e (λ p v. eqb v t) (arrives t) (λ p. 0) step none w k)
+  visits-arrivals t plain = omega (arith, tally-visits t none w, tally-le e (λ p v. eqb v t) (arrives t) (λ p. 0) step none w walk)
     where
       step : (p : Option ℕ) (v : ℕ) → Step e p v → bit (eqb v t) + 0 ≤ bit (arrives t p v) + 0
       step none v d = omega (arith, bit-le (says-eq v t) (λ q. bit-one (arrives-says t none v) (q, tt)))
@@ -74,7 +74,7 @@ module _ (e : Case) (s : SoundGraph e) (w : List ℕ) (k : Walk e w) where
     arrivals-le :
         a ≤ t → ((p : Option ℕ) (v : ℕ) → Step e p v → a ≤ v → v ≤ t → (v ≡ t → Below t p) → 1 ≤ bit (opens p v) + credit t a c p)
         → arrivals t w ≤ tally opens none w + c
-    arrivals-le at f = tally-le e (arrives t) opens (credit t a c) (λ p v d. step p v d (arrives-says t p v) (says-and (says-le a v) (says-lt v t))) none w k
+    arrivals-le at f = tally-le e (arrives t) opens (credit t a c) (λ p v d. step p v d (arrives-says t p v) (says-and (says-le a v) (says-lt v t))) none w walk
       where
         step :
             (p : Option ℕ) (v : ℕ) → Step e p v → {x y : Bool} → Says ((v ≡ t) × Below t p) x → Says ((a ≤ v) × (v < t)) y

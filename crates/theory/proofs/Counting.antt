@@ -31,7 +31,7 @@ over-says : (t : ℕ) (l : Loop) → Says (Over t l) (over t l)
 over-says t l = says-and (says-lt (l .first) t) (says-le t (l .last))
 
 -- `f` caps the visits of a loop's header by the stays in it.
-module _ (e : Case) (s : SoundGraph e) (w : List ℕ) (k : Walk e w) (f : ℕ → ℕ → ℕ)
+module _ (e : Case) (s : SoundGraph e) (w : List ℕ) (walk : Walk e w) (f : ℕ → ℕ → ℕ)
     (top : (j : ℕ) → j < e .loops → (n : ℕ) → stays (e .loop j) w ≤ n → visits (e .loop j .first) w ≤ f j n) where
   -- the chain of the loops over a header is, as far as that loop, the chain of the loops over what it holds
   same-over : (t j : ℕ) → j < e .loops → In (e .loop j) t → (i : ℕ) → i < j → over (e .loop j .first) (e .loop i) ≡ over t (e .loop i)
@@ -47,13 +47,13 @@ module _ (e : Case) (s : SoundGraph e) (w : List ℕ) (k : Walk e w) (f : ℕ �
       → visits (e .loop j .first) w ≤ f j (chain f (λ i. over t (e .loop i)) j)
   header-le t j m o h =
       rw (← chain-same f (λ i. over (e .loop j .first) (e .loop i)) (λ i. over t (e .loop i)) j (same-over t j m o))
-      (top j m _ (le-trans (stays-arrivals e s w k j m) h))
+      (top j m _ (le-trans (stays-arrivals e s w walk j m) h))
 
   -- the loops over t are below n
   arrivals-le-chain :
       (n t : ℕ) → n ≤ e .loops → ((j : ℕ) → j < e .loops → Over t (e .loop j) → j < n) → arrivals t w ≤ chain f (λ j. over t (e .loop j)) n
   unfolding chain
-  arrivals-le-chain zero t h low = arrivals-once e s w k t (λ j m o. omega (arith, low j m o))
+  arrivals-le-chain zero t h low = arrivals-once e s w walk t (λ j m o. omega (arith, low j m o))
   arrivals-le-chain (suc n) t h low = go (over-says t (e .loop n)) (λ u. arrivals-le-chain n u (omega arith))
     where
       go :
@@ -61,7 +61,7 @@ module _ (e : Case) (s : SoundGraph e) (w : List ℕ) (k : Walk e w) (f : ℕ �
           → ((u : ℕ) → ((j : ℕ) → j < e .loops → Over u (e .loop j) → j < n) → arrivals u w ≤ chain f (λ j. over u (e .loop j)) n)
           → arrivals t w ≤ cond b (f n (chain f (λ j. over t (e .loop j)) n)) (chain f (λ j. over t (e .loop j)) n)
       go (holds o) ih =
-          le-trans (arrivals-header e s w k t n h o (λ j m q. omega (arith, low j m q)))
+          le-trans (arrivals-header e s w walk t n h o (λ j m q. omega (arith, low j m q)))
           (header-le t n h (omega arith) (ih (e .loop n .first) (λ j m q. earlier e s j n m h (q .0))))
       go (fails q) ih = ih t λ j m o. elim (ℕ-discrete j n) [ yes p ↦ absurd (q (rw (← p) o)) | no p ↦ omega (arith, low j m o) ]
 
@@ -78,7 +78,7 @@ module _ (e : Case) (s : SoundGraph e) (w : List ℕ) (k : Walk e w) (f : ℕ �
       plain : None (λ j. eqb (e .loop j .first) v) (e .loops) → visits v w ≤ chain f (λ j. inside (e .loop j) v) (e .loops)
       plain no-header =
           rw (← same (e .loops) (λ j q. eqb-false _ _ (no-header j q)))
-          (le-trans (visits-arrivals e s w k v (λ j m p. eqb-false _ _ (no-header j m) (sym p)))
+          (le-trans (visits-arrivals e s w walk v (λ j m p. eqb-false _ _ (no-header j m) (sym p)))
           (arrivals-le-chain (e .loops) v (omega arith) (λ j m o. m)))
 
       header : Found (λ j. eqb (e .loop j .first) v) (e .loops) → visits v w ≤ chain f (λ j. inside (e .loop j) v) (e .loops)
@@ -113,9 +113,9 @@ module _ (e : Case) (s : SoundGraph e) (w : List ℕ) (k : Walk e w) (f : ℕ �
       (λ (o : Over (e .loop j .first) (e .loop i)). (o .0, ends-in e s i j n m o))
       (λ (o : (e .loop i .first < e .loop j .first) × (e .loop j .last ≤ e .loop i .last)). omega (arith, o, s .fits j m))
       (over-says (e .loop j .first) (e .loop i)) (around-says (e .loop j) (e .loop i)))
-      (le-trans (stays-arrivals e s w k j m) (arrivals-le-chain (e .loops) (e .loop j .first) (omega arith) (λ i n o. n)))
+      (le-trans (stays-arrivals e s w walk j m) (arrivals-le-chain (e .loops) (e .loop j .first) (omega arith) (λ i n o. n)))
 
-module _ (e : Case) (s : SoundGraph e) (w : List ℕ) (k : Walk e w) (kept : KeepsLimits e w) where
+module _ (e : Case) (s : SoundGraph e) (w : List ℕ) (walk : Walk e w) (kept : KeepsLimits e w) where
   -- the limits cap a header's visits by the stays
   by-stays : (j : ℕ) → j < e .loops → (n : ℕ) → stays (e .loop j) w ≤ n → visits (e .loop j .first) w ≤ n * e .loop j .bound
   by-stays j m n h =
@@ -130,10 +130,10 @@ module _ (e : Case) (s : SoundGraph e) (w : List ℕ) (k : Walk e w) (kept : Kee
   unfolding count
   visits-le-count v =
       rw (product-chain (λ j. e .loop j .bound) (λ j. inside (e .loop j) v) (e .loops))
-      (visits-le-chain e s w k (λ j n. n * e .loop j .bound) by-stays v)
+      (visits-le-chain e s w walk (λ j n. n * e .loop j .bound) by-stays v)
 
   pub stays-le-entries : (j : ℕ) → j < e .loops → stays (e .loop j) w ≤ entriesOf e (e .loop j)
   unfolding entriesOf
   stays-le-entries j m =
       rw (product-chain (λ i. e .loop i .bound) (λ i. around (e .loop j) (e .loop i)) (e .loops))
-      (stays-le-chain e s w k (λ i n. n * e .loop i .bound) by-stays j m)
+      (stays-le-chain e s w walk (λ i n. n * e .loop i .bound) by-stays j m)

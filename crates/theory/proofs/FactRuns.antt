@@ -50,13 +50,13 @@ module _ (e : Case) (M : Machine) (t : Fact) where
       one (holds h) = sym (miss-at e M v c (rw (h .1) real) ∙ ap (λ (b : ℕ). M .miss b (c (b % e .sets))) (h .1))
       one (fails n) = refl
 
-module _ (e : Case) (s : Sound e) (w : List ℕ) (k : Walk e w) (kept : KeepsLimits e w) where
+module _ (e : Case) (s : Sound e) (w : List ℕ) (walk : Walk e w) (kept : KeepsLimits e w) where
   abbrev whole : Loop
   whole = record { first = 0; last = e .nodes - 1; bound = 1 }
 
   -- "the whole graph with one entry"
   whole-once : stays whole w ≤ 1
-  whole-once = omega (arith, tally-none none w, tally-le e (begins whole) (λ p v. false) credit step none w k)
+  whole-once = omega (arith, tally-none none w, tally-le e (begins whole) (λ p v. false) credit step none w walk)
     where
       credit : Option ℕ → ℕ
       credit none = 1
@@ -77,7 +77,7 @@ module _ (e : Case) (s : Sound e) (w : List ℕ) (k : Walk e w) (kept : KeepsLim
     where
       go : {b : Bool} → Says (t .scope ≡ Machines.none) b → stays (cond b whole (e .loop (t .scope))) w ≤ cond b 1 (entriesOf e (e .loop (t .scope)))
       go (holds p) = whole-once
-      go (fails n) = stays-le-entries e (s .graph) w k kept (t .scope) (h .head .scope n)
+      go (fails n) = stays-le-entries e (s .graph) w walk kept (t .scope) (h .head .scope n)
 
   module _ (M : Machine) (t : Fact) (h : SoundFact e t) (r a d : ℕ) (L : Law M (t .block) (t .limit - 1) r a d) where
     -- whatever legal states the set is put into while nothing is known since b
@@ -85,9 +85,9 @@ module _ (e : Case) (s : Sound e) (w : List ℕ) (k : Walk e w) (kept : KeepsLim
     taken-bound σ z =
         omega (
           arith,
-          fact-pays e M t (h .head .block) (h .evidence) r a d L w σ z k,
+          fact-pays e M t (h .head .block) (h .evidence) r a d L w σ z walk,
           mul-le-mul-left a (stays-scope t h),
-          mul-le-mul-left d (passing-le-counts e (s .graph) (s .nodes) (covers e t) w k kept),
+          mul-le-mul-left d (passing-le-counts e (s .graph) (s .nodes) (covers e t) w walk kept),
         )
 
   pub law-bound :

@@ -32,12 +32,12 @@ use Rattle.paper.proofs.SameFacts.{SameFact, head-same, unfetched-same, evidenc
 use Rattle.theory.proofs.OneFile.{KeptLayout, tests-kept, oneOf, graph-length, graph-part, head-part, rows-part, end-is, trailer-is, one-layout}
 
 -- A file that keeps the rules 1 to 5 is judged by its graph and its facts.
-judged-on : (f : List ℕ) (t : Trailer) → trailerOf f ≡ t → KeptLayout f t → (room : ℕ) → 321 ≤ room →
-    verdict f room ≡ graphRules (caseOf f t) (factRules f t Accepted)
+judged-on : (f : List ℕ) (trailer : Trailer) → trailerOf f ≡ trailer → KeptLayout f trailer → (room : ℕ) → 321 ≤ room →
+    verdict f room ≡ graphRules (caseOf f trailer) (factRules f trailer Accepted)
 unfolding verdict layoutRules badCache
-judged-on f t e l room h = rw (e, le-ltb room 321 h, le-ltb (length f) 32 (l .long), l .letters, l .cache, l .numbers, l .offsets) refl
+judged-on f trailer e l room h = rw (e, le-ltb room 321 h, le-ltb (length f) 32 (l .long), l .letters, l .cache, l .numbers, l .offsets) refl
 
-module _ (f : List ℕ) (t : Fact) (rows : List ℕ) (k : KeptLayout f (trailerOf f)) where
+module _ (f : List ℕ) (t : Fact) (rows : List ℕ) (kept : KeptLayout f (trailerOf f)) where
   abbrev file : List ℕ
   file = fileWith f t rows
 
@@ -50,13 +50,13 @@ module _ (f : List ℕ) (t : Fact) (rows : List ℕ) (k : KeptLayout f (trailerO
   graph-word : (p : ℕ) → p + 2 ≤ place → u16At f p ≡ u16At file p
   graph-word p l =
       ap (λ (q : ℕ). u16At f q) (omega arith)
-      ∙ u16-same f file 0 0 (graphBytes f) (stands-take f 0 place f (stands-self f)) (graph-part f t rows k) p (omega (arith, graph-length f t rows k))
+      ∙ u16-same f file 0 0 (graphBytes f) (stands-take f 0 place f (stands-self f)) (graph-part f t rows kept) p (omega (arith, graph-length f t rows kept))
       ∙ ap (λ (q : ℕ). u16At file q) (omega arith)
 
   graph-double : (p : ℕ) → p + 4 ≤ place → u32At f p ≡ u32At file p
   graph-double p l =
       ap (λ (q : ℕ). u32At f q) (omega arith)
-      ∙ u32-same f file 0 0 (graphBytes f) (stands-take f 0 place f (stands-self f)) (graph-part f t rows k) p (omega (arith, graph-length f t rows k))
+      ∙ u32-same f file 0 0 (graphBytes f) (stands-take f 0 place f (stands-self f)) (graph-part f t rows kept) p (omega (arith, graph-length f t rows kept))
       ∙ ap (λ (q : ℕ). u32At file q) (omega arith)
 
   -- The file holds f's graph.
@@ -84,12 +84,12 @@ module _ (f : List ℕ) (t : Fact) (rows : List ℕ) (k : KeptLayout f (trailerO
 
   -- The fact that it holds has t's head, and these rows as far as they go.
   head-word : (i p : ℕ) → i < 3 → p ≡ place + 2 * i → getD (t .scope ∷ t .block ∷ t .limit ∷ []) i 0 ≡ u16At file p
-  head-word i p l e = sym (ap (λ (q : ℕ). u16At file q) e ∙ word-is file place (t .scope ∷ t .block ∷ t .limit ∷ []) (head-part f t rows k) i l)
+  head-word i p l e = sym (ap (λ (q : ℕ). u16At file q) e ∙ word-is file place (t .scope ∷ t .block ∷ t .limit ∷ []) (head-part f t rows kept) i l)
 
   row-word : (p q : ℕ) → q ≡ place + 6 + p → p + 2 ≤ length rows → u16At rows p ≡ u16At file q
   row-word p q e l =
       ap (λ (r : ℕ). u16At rows r) (omega arith)
-      ∙ u16-same rows file 0 (place + 6) rows (stands-self rows) (rows-part f t rows k) p l
+      ∙ u16-same rows file 0 (place + 6) rows (stands-self rows) (rows-part f t rows kept) p l
       ∙ ap (λ (r : ℕ). u16At file r) (sym e)
 
   pub same-fact : (n : ℕ) → 16 * n ≤ length rows → SameFact n (withRows (readCase f) t rows) (caseOf file one .fact 0)
@@ -129,7 +129,7 @@ module _ (f : List ℕ) (t : Fact) (rows : List ℕ) (k : KeptLayout f (trailerO
     accepted-one a =
         let b = turn-kept file one 0 nonePrevious place _ a in
         let end : endAt file ≤ factPlace file one 1 = ltb-false _ _ (past 19 0 _ _ (b .1) .0) in
-        (omega (arith, b .0 .room, end, end-is f t rows k, end-of-fact), b .0 .sound .evidence)
+        (omega (arith, b .0 .room, end, end-is f t rows kept, end-of-fact), b .0 .sound .evidence)
 
     module _ (fetched : unfetched (readCase f) t ≡ false) (whole : length rows ≡ 16 * size scope) where
       abbrev with : Fact
@@ -142,7 +142,7 @@ module _ (f : List ℕ) (t : Fact) (rows : List ℕ) (k : KeptLayout f (trailerO
       same = same-fact (size scope) (omega arith)
 
       some-node : 1 ≤ trailerOf f .nodes
-      some-node = laid f (trailerOf f) (k .long) (k .cache) (k .numbers) (k .offsets) .nodes-low
+      some-node = laid f (trailerOf f) (kept .long) (kept .cache) (kept .numbers) (kept .offsets) .nodes-low
 
       same-evidence : (rest : Verdict) → evidenceRules (readCase f) 0 with rest ≡ evidenceRules (caseOf file one) 0 read rest
       unfolding caseOf
@@ -160,35 +160,35 @@ module _ (f : List ℕ) (t : Fact) (rows : List ℕ) (k : KeptLayout f (trailerO
       unfolding factRules turnsFrom turnRules headRule orderRule bodyRules fetchRule badOrder wrongOrder factPlace caseOf
       one-accepted a =
           rw (
-            le-ltb (endAt file) (place + 6) (omega (arith, end-is f t rows k)),
+            le-ltb (endAt file) (place + 6) (omega (arith, end-is f t rows kept)),
             same-head,
             same-fetched,
-            le-ltb (endAt file) (factEnd file one place) (omega (arith, end-is f t rows k, end-of-fact)),
-            le-ltb (factPlace file one 1) (endAt file) (omega (arith, end-is f t rows k, end-of-fact)),
+            le-ltb (endAt file) (factEnd file one place) (omega (arith, end-is f t rows kept, end-of-fact)),
+            le-ltb (factPlace file one 1) (endAt file) (omega (arith, end-is f t rows kept, end-of-fact)),
           )
           (sym (same-evidence Accepted) ∙ a)
 
 -- What the file of one fact holds, but for its facts, is what f holds.
 pub one-graph : (f : List ℕ) (t : Fact) (rows : List ℕ) → Passes (wholeFileRules f) → SameGraph (readCase f) (readCase (fileWith f t rows))
 one-graph f t rows passes =
-    let k = tests-kept f _ passes in
-    subst (λ (s : Trailer). SameGraph (readCase f) (caseOf (fileWith f t rows) s)) (sym (trailer-is f t rows k)) (same-graph f t rows k)
+    let kept = tests-kept f _ passes in
+    subst (λ (s : Trailer). SameGraph (readCase f) (caseOf (fileWith f t rows) s)) (sym (trailer-is f t rows kept)) (same-graph f t rows kept)
 
 -- For a graph that passes 1 to 10 and an otherwise sound fact, the file with that graph and this one fact with these rows is accepted exactly when the rows pass.
 pub one-fact : (f : List ℕ) (t : Fact) (rows : List ℕ) → Passes (wholeFileRules f) → badHead (readCase f) t ≡ false → unfetched (readCase f) t ≡ false →
     (room : ℕ) → 321 ≤ room →
     (verdict (fileWith f t rows) room ≡ Accepted) ↔ ((length rows ≡ 16 * size (scopeOf (readCase f) t)) × Passes (evidenceRules (readCase f) 0 (withRows (readCase f) t rows)))
 one-fact f t rows passes head fetched room long =
-    let k = tests-kept f _ passes in
+    let kept = tests-kept f _ passes in
     let graph : graphRules (readCase f) Accepted ≡ Accepted = layout-kept f _ passes .1 in
     let g = graph-kept (readCase f) Accepted graph .0 in
     let facts = factRules (fileWith f t rows) (oneOf f) Accepted in
     let by : verdict (fileWith f t rows) room ≡ facts
-    = judged-on (fileWith f t rows) (oneOf f) (trailer-is f t rows k) (one-layout f t rows k) room long
-    ∙ sym (graph-same _ _ (same-graph f t rows k) facts)
+    = judged-on (fileWith f t rows) (oneOf f) (trailer-is f t rows kept) (one-layout f t rows kept) room long
+    ∙ sym (graph-same _ _ (same-graph f t rows kept) facts)
     ∙ accepted-on (graphRules (readCase f)) (hands-graph (readCase f)) facts Accepted (sym graph) refl in (
       λ a.
-          let r = accepted-one f t rows k g head (sym by ∙ a) in
-          (r .0, same-evidence f t rows k g head fetched (r .0) Accepted ∙ evidence-law _ _ 0 .1 (r .1)),
-      λ a. by ∙ one-accepted f t rows k g head fetched (a .0) (a .1),
+          let r = accepted-one f t rows kept g head (sym by ∙ a) in
+          (r .0, same-evidence f t rows kept g head fetched (r .0) Accepted ∙ evidence-law _ _ 0 .1 (r .1)),
+      λ a. by ∙ one-accepted f t rows kept g head fetched (a .0) (a .1),
     )

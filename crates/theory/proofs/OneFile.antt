@@ -36,12 +36,12 @@ oneOf f =
     }
 
 -- rules 1 to 5, test by test
-pub record KeptLayout (f : List ℕ) (t : Trailer) : Type 0 where
+pub record KeptLayout (f : List ℕ) (trailer : Trailer) : Type 0 where
   pub long : 32 ≤ length f
   pub letters : badLetters f ≡ false
-  pub cache : inRange (t .policy) (t .ways) (t .sets) ≡ true
-  pub numbers : badNumbers t ≡ false
-  pub offsets : badOffsets f t ≡ false
+  pub cache : inRange (trailer .policy) (trailer .ways) (trailer .sets) ≡ true
+  pub numbers : badNumbers trailer ≡ false
+  pub offsets : badOffsets f trailer ≡ false
 
 pub tests-kept : (f : List ℕ) (rest : Verdict) → layoutRules f rest ≡ Accepted → KeptLayout f (trailerOf f)
 unfolding layoutRules badCache
@@ -53,20 +53,20 @@ tests-kept f rest h =
     record { long = ltb-false _ _ (a .0); letters = b .0; cache = not-false _ (c .0); numbers = d .0; offsets = past 5 0 _ _ (d .1) .0 }
 
 -- 5
-record Offsets (f : List ℕ) (t : Trailer) : Type 0 where
+record Offsets (f : List ℕ) (trailer : Trailer) : Type 0 where
   nodes : u32At f (endAt f) ≡ 0
-  edges : u32At f (endAt f + 4) ≡ edgesAt t
-  loops : u32At f (endAt f + 8) ≡ loopsAt t
-  facts : u32At f (endAt f + 12) ≡ factsAt t
-  room : factsAt t ≤ endAt f
+  edges : u32At f (endAt f + 4) ≡ edgesAt trailer
+  loops : u32At f (endAt f + 8) ≡ loopsAt trailer
+  facts : u32At f (endAt f + 12) ≡ factsAt trailer
+  room : factsAt trailer ≤ endAt f
 
-offsets-at : (f : List ℕ) (t : Trailer) → badOffsets f t ≡ false → Offsets f t
+offsets-at : (f : List ℕ) (trailer : Trailer) → badOffsets f trailer ≡ false → Offsets f trailer
 unfolding badOffsets
-offsets-at f t h =
+offsets-at f trailer h =
     let a = neither (not (eqb (u32At f (endAt f)) 0)) _ h in
-    let b = neither (not (eqb (u32At f (endAt f + 4)) (edgesAt t))) _ (a .1) in
-    let c = neither (not (eqb (u32At f (endAt f + 8)) (loopsAt t))) _ (b .1) in
-    let d = neither (not (eqb (u32At f (endAt f + 12)) (factsAt t))) _ (c .1) in
+    let b = neither (not (eqb (u32At f (endAt f + 4)) (edgesAt trailer))) _ (a .1) in
+    let c = neither (not (eqb (u32At f (endAt f + 8)) (loopsAt trailer))) _ (b .1) in
+    let d = neither (not (eqb (u32At f (endAt f + 12)) (factsAt trailer))) _ (c .1) in
     record {
       nodes = eqb-true _ _ (not-false _ (a .0));
       edges = eqb-true _ _ (not-false _ (b .0));
@@ -75,7 +75,7 @@ offsets-at f t h =
       room = ltb-false _ _ (d .1);
     }
 
-module _ (f : List ℕ) (t : Fact) (rows : List ℕ) (k : KeptLayout f (trailerOf f)) where
+module _ (f : List ℕ) (t : Fact) (rows : List ℕ) (kept : KeptLayout f (trailerOf f)) where
   abbrev file : List ℕ
   file = fileWith f t rows
 
@@ -90,14 +90,14 @@ module _ (f : List ℕ) (t : Fact) (rows : List ℕ) (k : KeptLayout f (trailerO
   last = drop (endAt f) f
 
   offsets : Offsets f (trailerOf f)
-  offsets = offsets-at f (trailerOf f) (k .offsets)
+  offsets = offsets-at f (trailerOf f) (kept .offsets)
 
   -- the parts, one after another
   pub graph-length : length (graphBytes f) ≡ place
   graph-length = length-take place f ∙ omega (arith, offsets .room)
 
   last-length : length last ≡ 32
-  last-length = length-drop (endAt f) f ∙ omega (arith, k .long)
+  last-length = length-drop (endAt f) f ∙ omega (arith, kept .long)
 
   pub graph-part : Stands file 0 (graphBytes f)
   unfolding fileWith
@@ -225,15 +225,15 @@ module _ (f : List ℕ) (t : Fact) (rows : List ℕ) (k : KeptLayout f (trailerO
   numbers-kept : badNumbers one ≡ false
   unfolding badNumbers
   numbers-kept =
-      let n = laid f (trailerOf f) (k .long) (k .cache) (k .numbers) (k .offsets) in
+      let n = laid f (trailerOf f) (kept .long) (kept .cache) (kept .numbers) (kept .offsets) in
       rw (le-ltb _ _ (n .nodes-low), le-ltb _ _ (n .nodes-high), le-ltb _ _ (n .edges-high), le-ltb _ _ (n .loops-high)) refl
 
   pub one-layout : KeptLayout file one
   one-layout =
       record {
         long = omega (arith, file-length);
-        letters = letters-same ∙ k .letters;
-        cache = k .cache;
+        letters = letters-same ∙ kept .letters;
+        cache = kept .cache;
         numbers = numbers-kept;
         offsets = offsets-kept;
       }

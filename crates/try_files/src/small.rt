@@ -8,12 +8,12 @@ ghost use Rattle.paper.specs.Files.{factsAt};
 ghost use Rattle.paper.specs.Records.{trailerSize};
 
 // Loop j goes from node j to node 1.
-fn put_loops(file: &mut [u8], t: Trailer, bound: u64)
-    requires { ⌜ factsAt t ≤ length (now file) ⌝ }
+fn put_loops(file: &mut [u8], trailer: Trailer, bound: u64)
+    requires { ⌜ factsAt trailer ≤ length (now file) ⌝ }
 {
     let mut j: u16 = 0;
-    while j < t.loops {
-        let at = places::loop_place(t, j);
+    while j < trailer.loops {
+        let at = places::loop_place(trailer, j);
         put(file, at, 2, j as u64);
         put(file, at + places::LAST_FIELD, 2, 1);
         put(file, at + places::BOUND_FIELD, 4, bound);
@@ -22,45 +22,45 @@ fn put_loops(file: &mut [u8], t: Trailer, bound: u64)
 }
 
 // "four 32-bit offsets (nodes, edges, loops, facts)": the facts would stand where the trailer does.
-fn put_offsets(file: &mut [u8], t: Trailer)
-    requires { ⌜ factsAt t + trailerSize ≤ length (now file) ⌝ }
+fn put_offsets(file: &mut [u8], trailer: Trailer)
+    requires { ⌜ factsAt trailer + trailerSize ≤ length (now file) ⌝ }
 {
-    let end = places::facts_at(t);
+    let end = places::facts_at(trailer);
     put(file, end, 4, 0);
     put(
         file,
         end + places::EDGES_OFFSET,
         4,
-        places::edges_at(t) as u64,
+        places::edges_at(trailer) as u64,
     );
     put(
         file,
         end + places::LOOPS_OFFSET,
         4,
-        places::loops_at(t) as u64,
+        places::loops_at(trailer) as u64,
     );
     put(file, end + places::FACTS_OFFSET, 4, end as u64);
 }
 
 // "16-bit numbers of nodes, edges, loops, facts"
-fn put_numbers(file: &mut [u8], t: Trailer)
-    requires { ⌜ factsAt t + trailerSize ≤ length (now file) ⌝ }
+fn put_numbers(file: &mut [u8], trailer: Trailer)
+    requires { ⌜ factsAt trailer + trailerSize ≤ length (now file) ⌝ }
 {
-    let end = places::facts_at(t);
-    put(file, end + places::NODES_FIELD, 2, t.nodes as u64);
-    put(file, end + places::EDGES_FIELD, 2, t.edges as u64);
-    put(file, end + places::LOOPS_FIELD, 2, t.loops as u64);
-    put(file, end + places::FACTS_FIELD, 2, t.facts as u64);
+    let end = places::facts_at(trailer);
+    put(file, end + places::NODES_FIELD, 2, trailer.nodes as u64);
+    put(file, end + places::EDGES_FIELD, 2, trailer.edges as u64);
+    put(file, end + places::LOOPS_FIELD, 2, trailer.loops as u64);
+    put(file, end + places::FACTS_FIELD, 2, trailer.facts as u64);
 }
 
 // "policy, ways, sets, version 1, one byte each; then the four letters QMBT"
-fn put_cache(file: &mut [u8], t: Trailer)
-    requires { ⌜ factsAt t + trailerSize ≤ length (now file) ⌝ }
+fn put_cache(file: &mut [u8], trailer: Trailer)
+    requires { ⌜ factsAt trailer + trailerSize ≤ length (now file) ⌝ }
 {
-    let end = places::facts_at(t);
-    put(file, end + places::POLICY_FIELD, 1, t.policy as u64);
-    put(file, end + places::WAYS_FIELD, 1, t.ways as u64);
-    put(file, end + places::SETS_FIELD, 1, t.sets as u64);
+    let end = places::facts_at(trailer);
+    put(file, end + places::POLICY_FIELD, 1, trailer.policy as u64);
+    put(file, end + places::WAYS_FIELD, 1, trailer.ways as u64);
+    put(file, end + places::SETS_FIELD, 1, trailer.sets as u64);
     put(file, end + places::VERSION_FIELD, 1, 1);
     print::word(file, end + places::LETTERS_FIELD, b"QMBT");
 }
@@ -71,7 +71,7 @@ pub fn put_case(file: &mut [u8], policy: u8, ways: u8, loops: u16, bound: u64) -
     requires { ⌜ 52 ≤ length (now file) ⌝ }
     ensures { λ r. ⌜ r ≤ 52 ⌝ }
 {
-    let t = Trailer {
+    let trailer = Trailer {
         nodes: 2,
         edges: 0,
         loops: loops,
@@ -81,9 +81,9 @@ pub fn put_case(file: &mut [u8], policy: u8, ways: u8, loops: u16, bound: u64) -
         sets: 1,
     };
     put(file, 0, 4, 4294967295);
-    put_loops(file, t, bound);
-    put_offsets(file, t);
-    put_numbers(file, t);
-    put_cache(file, t);
-    places::facts_at(t) + places::TRAILER_SIZE
+    put_loops(file, trailer, bound);
+    put_offsets(file, trailer);
+    put_numbers(file, trailer);
+    put_cache(file, trailer);
+    places::facts_at(trailer) + places::TRAILER_SIZE
 }

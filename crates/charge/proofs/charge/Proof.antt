@@ -10,7 +10,7 @@ use Rattle.charge.proofs.Tallies.{grouped-start}
 use Rattle.charge.proofs.charge.Statement.{statement}
 use Rattle.charge.proofs.charge.Tie as tie
 
-ready : (c : tie.Start) → Ready (c .args .file .now) (c .args .t) (c .args .counts .now)
+ready : (c : tie.Start) → Ready (c .args .file .now) (c .args .trailer) (c .args .counts .now)
 ready c = let p = c .pre in record { laid = p .0; sound = p .1 .0; placed = p .1 .1 .0; counted = p .1 .1 .1 .0 }
 
 -- where the numbers are 0
@@ -19,7 +19,7 @@ start c = c .before .before .before .before .before
 
 cleared : (c : tie.After-clear) →
     let a = start c .args in
-    Part (caseOf (a .file .now) (a .t)) 0 0 0 (a .numbers .now) (c .clear .last .0)
+    Part (caseOf (a .file .now) (a .trailer)) 0 0 0 (a .numbers .now) (c .clear .last .0)
 cleared c = part-start _ _ _ (start c .pre .1 .1 .1 .1) (c .clear .ensures)
 
 -- where the facts' tables are lent, and where the facts are charged

@@ -7,10 +7,10 @@ use Rattle.facts.proofs.fact_rules.Statement.{statement}
 use Rattle.facts.proofs.fact_rules.Tie as tie
 
 abbrev Inv-loop : tie.InvT-loop
-Inv-loop file t p₀ previous₀ i₀ p previous i = Walked file t i previous p
+Inv-loop file trailer p₀ previous₀ i₀ p previous i = Walked file trailer i previous p
 
 abbrev μ-loop : tie.MeasureT-loop
-μ-loop file t p₀ previous₀ i₀ p previous i = t .facts - i
+μ-loop file trailer p₀ previous₀ i₀ p previous i = trailer .facts - i
 
 loop-holds : tie.Need-loop-holds Inv-loop μ-loop
 loop-holds c = walk-start _ _ (c .before .before .pre .0) _ (c .facts-at .ensures)

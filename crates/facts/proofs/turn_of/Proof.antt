@@ -32,7 +32,7 @@ roomy n = sym (n .before .if1 .left) ∙ n .before .before .short-of .ensures
 headed : (m : tie.After-wrong-head) →
     let n = m .before in
     let a = n .before .before .before .before .args in
-    m .wrong-head .result ≡ badHead (caseOf (a .file .now) (a .t)) (factAt (a .file .now) (a .p))
+    m .wrong-head .result ≡ badHead (caseOf (a .file .now) (a .trailer)) (factAt (a .file .now) (a .p))
 headed m = m .wrong-head .ensures ∙ head-is _ _ _ _ (m .before .names-at .ensures)
 
 returns-2 : tie.Need-returns-2

@@ -15,8 +15,8 @@ returns : tie.Need-returns
 unfolding floorOf
 returns c =
     let a = c .before .args in
-    let z : a .t .ways + 1 - a .l ≡ suc (a .t .ways) - a .l = omega arith in
-    ap (λ (x : ℕ). a .t .ways * a .m / x) z
+    let z : a .trailer .ways + 1 - a .l ≡ suc (a .trailer .ways) - a .l = omega arith in
+    ap (λ (x : ℕ). a .trailer .ways * a .m / x) z
 
 pub floor-of-spec : {M : Type 1} → statement M
 floor-of-spec =

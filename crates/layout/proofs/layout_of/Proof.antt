@@ -22,22 +22,22 @@ returns-3 c = refuses _ _ _ (rw (← c .before .before .before .trailer-of .ensu
 returns-4 : tie.Need-returns-4
 unfolding layoutOf layoutRules
 returns-4 c =
-    let t = c .before .before .before .before .before in
-    refuses _ _ _ (rw (← t .trailer-of .ensures) (search (passes-lt, passes, stops)))
+    let read = c .before .before .before .before .before in
+    refuses _ _ _ (rw (← read .trailer-of .ensures) (search (passes-lt, passes, stops)))
 
 returns-5 : tie.Need-returns-5
 unfolding layoutOf layoutRules
 returns-5 c =
     let d = c .before .before in
-    let t = d .before .before .before .before .before in
-    refuses _ _ _ (rw (← t .trailer-of .ensures) (search (passes-lt, passes, stops)))
+    let read = d .before .before .before .before .before in
+    refuses _ _ _ (rw (← read .trailer-of .ensures) (search (passes-lt, passes, stops)))
 
 returns-6 : tie.Need-returns-6
 unfolding layoutOf layoutRules
 returns-6 c =
     let d = c .before in
-    let t = d .before .before .before .before .before in
-    reads _ _ _ (t .trailer-of .ensures) (rw (← t .trailer-of .ensures) (search (passes-lt, passes)))
+    let read = d .before .before .before .before .before in
+    reads _ _ _ (read .trailer-of .ensures) (rw (← read .trailer-of .ensures) (search (passes-lt, passes)))
 
 pub layout-of-spec : {M : Type 1} → statement M
 layout-of-spec =

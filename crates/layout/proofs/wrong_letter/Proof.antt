@@ -9,10 +9,10 @@ use Rattle.layout.proofs.wrong_letter.Statement.{statement}
 use Rattle.layout.proofs.wrong_letter.Tie as tie
 
 abbrev Inv-loop : tie.InvT-loop
-Inv-loop file letters end k₀ k = Passed (badLetter file) 4 k × (end ≡ endAt file)
+Inv-loop file letters end i₀ i = Passed (badLetter file) 4 i × (end ≡ endAt file)
 
 abbrev μ-loop : tie.MeasureT-loop
-μ-loop file letters end k₀ k = 4 - k
+μ-loop file letters end i₀ i = 4 - i
 
 loop-holds : tie.Need-loop-holds Inv-loop μ-loop
 loop-holds c = (passed-start _ _, c .end-of .ensures)

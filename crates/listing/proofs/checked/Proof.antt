@@ -9,8 +9,8 @@ use Rattle.listing.proofs.checked.Tie as tie
 
 accepted-requires : tie.Need-accepted-requires
 accepted-requires c κs =
-    let t = c .before .before .before .before .before in
-    let d = read-laid _ _ (sym (t .before .before .layout-of .ensures) ∙ t .t .given .1) in
+    let read = c .before .before .before .before .before in
+    let d = read-laid _ _ (sym (read .before .before .layout-of .ensures) ∙ read .trailer .given .1) in
     (search needs, (d .sets-high, d .facts-high))
 
 returns : tie.Need-returns
@@ -26,11 +26,11 @@ returns-2 c =
 
 returns-3 : tie.Need-returns-3
 returns-3 c =
-    let t = c .before .before .before .before .before .before in
-    let o = t .before .before in
+    let read = c .before .before .before .before .before .before in
+    let o = read .before .before in
     let p = o .before .before .before .before .check .ensures in
     printed-as
-    (accepted-text _ _ _ _ _ (sym (o .layout-of .ensures) ∙ t .t .given .1) (check-answer _ _ _ _ p) (p .numbers) (o .before .enum-told .given .1))
+    (accepted-text _ _ _ _ _ (sym (o .layout-of .ensures) ∙ read .trailer .given .1) (check-answer _ _ _ _ p) (p .numbers) (o .before .enum-told .given .1))
     (c .accepted .ensures)
 
 pub checked-spec : {M : Type 1} → statement M

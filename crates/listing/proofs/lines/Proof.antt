@@ -26,8 +26,8 @@ line-of-two-requires c κs =
 
 loop-again : tie.Need-loop-again Inv-loop μ-loop
 loop-again c =
-    let t = c .before .before .before .before .before in
-    left-more (c .before .before .line-of-two .ensures) (next-line _ _ _ _ (t .before .loop .inv) (omega (arith, t .loop-test .taken)))
+    let turn = c .before .before .before .before .before in
+    left-more (c .before .before .line-of-two .ensures) (next-line _ _ _ _ (turn .before .loop .inv) (omega (arith, turn .loop-test .taken)))
 
 returns : tie.Need-returns Inv-loop μ-loop
 returns c = left-end (no-line _ _ _ _ (c .before .loop .inv) (omega (arith, c .loop-test .left)))

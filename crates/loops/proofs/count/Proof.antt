@@ -124,7 +124,7 @@ module _ {M : Type 1} (𝓤 : URA M) (H : Heap 𝓤) (A : Atoms 𝓤) (W : Given
   elem s = getD ys (s .j) noLoop
 
   abbrev Nearer : At ys node → At ys node → Type 0
-  Nearer t s = length ys - t .j < length ys - s .j
+  Nearer trailer s = length ys - trailer .j < length ys - s .j
 
   Nearer-wf : WellFounded Nearer
   Nearer-wf = InvImage·wf (λ (s : At ys node). length ys - s .j) (Nat·lt-wfRel .wf)

@@ -7,10 +7,10 @@ use Rattle.loops.proofs.loops_of.Statement.{statement}
 use Rattle.loops.proofs.loops_of.Tie as tie
 
 abbrev Inv-loop : tie.InvT-loop
-Inv-loop file t loops₀ j₀ loops j = Read file t j loops
+Inv-loop file trailer loops₀ j₀ loops j = Read file trailer j loops
 
 abbrev μ-loop : tie.MeasureT-loop
-μ-loop file t loops₀ j₀ loops j = t .loops - j
+μ-loop file trailer loops₀ j₀ loops j = trailer .loops - j
 
 loop-again : tie.Need-loop-again Inv-loop μ-loop
 loop-again c =

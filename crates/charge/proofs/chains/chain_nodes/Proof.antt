@@ -11,10 +11,10 @@ use Rattle.charge.proofs.chains.chain_nodes.Statement.{statement}
 use Rattle.charge.proofs.chains.chain_nodes.Tie as tie
 
 abbrev Inv-loop : tie.InvT-loop
-Inv-loop file t chain₀ n v₀ chain v = (v ≤ n) × Chained (caseOf file t) v chain
+Inv-loop file trailer chain₀ n v₀ chain v = (v ≤ n) × Chained (caseOf file trailer) v chain
 
 abbrev μ-loop : tie.MeasureT-loop
-μ-loop file t chain₀ n v₀ chain v = n - v
+μ-loop file trailer chain₀ n v₀ chain v = n - v
 
 -- where a node is read
 abbrev start : tie.After-node-at Inv-loop μ-loop → tie.Start Inv-loop μ-loop
@@ -32,7 +32,7 @@ loop-again c =
 returns : tie.Need-returns Inv-loop μ-loop
 returns c =
     let a = c .before .before .before .args in
-    at-end (λ n. Chained (caseOf (a .file .now) (a .t)) n (c .before .loop .chain)) _ _ (c .before .loop .inv .0) (c .loop-test .left) (c .before .loop .inv .1)
+    at-end (λ n. Chained (caseOf (a .file .now) (a .trailer)) n (c .before .loop .chain)) _ _ (c .before .loop .inv .0) (c .loop-test .left) (c .before .loop .inv .1)
 
 pub chain-nodes-spec : {M : Type 1} → statement M
 chain-nodes-spec =

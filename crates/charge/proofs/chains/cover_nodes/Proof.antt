@@ -12,10 +12,10 @@ use Rattle.charge.proofs.chains.cover_nodes.Statement.{statement}
 use Rattle.charge.proofs.chains.cover_nodes.Tie as tie
 
 abbrev Inv-loop : tie.InvT-loop
-Inv-loop file t counts chain h cover₀ n₀ c₀ cover n c = Following (caseOf file t) (h .range) (h .block) (h .limit) cover₀ cover n c
+Inv-loop file trailer counts chain h cover₀ n₀ c₀ cover n c = Following (caseOf file trailer) (h .range) (h .block) (h .limit) cover₀ cover n c
 
 abbrev μ-loop : tie.MeasureT-loop
-μ-loop file t counts chain h cover₀ n₀ c₀ cover n c = c
+μ-loop file trailer counts chain h cover₀ n₀ c₀ cover n c = c
 
 loop-holds : tie.Need-loop-holds Inv-loop μ-loop
 unfolding caseOf
@@ -31,7 +31,7 @@ start c = c .before .before .before .before .before
 abbrev at : tie.Then1 Inv-loop μ-loop → tie.At-loop Inv-loop μ-loop
 at c = c .before .before
 
-node : (c : tie.Then1 Inv-loop μ-loop) → at c .loop .c - 1 < start (at c) .args .t .nodes
+node : (c : tie.Then1 Inv-loop μ-loop) → at c .loop .c - 1 < start (at c) .args .trailer .nodes
 unfolding caseOf
 node c = omega (arith, c .if1 .taken, at c .loop .inv .within)
 
@@ -54,7 +54,7 @@ loop-less : tie.Need-loop-less Inv-loop μ-loop
 loop-less c =
     let i = turn (c .before) in
     let s = start (at i) in
-    let e = caseOf (s .args .file .now) (s .args .t) in
+    let e = caseOf (s .args .file .now) (s .args .trailer) in
     let v = at i .loop .c - 1 in
     omega (arith, s .pre .1 .0 .befores v (node i), chain-low e (bucket e v) v, i .if1 .taken)
 

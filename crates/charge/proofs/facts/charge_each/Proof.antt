@@ -9,10 +9,10 @@ use Rattle.charge.proofs.facts.charge_each.Statement.{statement}
 use Rattle.charge.proofs.facts.charge_each.Tie as tie
 
 abbrev Inv-loop : tie.InvT-loop
-Inv-loop file t counts outers chain cover₀ charged₀ entered₀ numbers₀ n p₀ i₀ cover charged entered numbers p i = Adding file t numbers₀ i p cover charged entered numbers
+Inv-loop file trailer counts outers chain cover₀ charged₀ entered₀ numbers₀ n p₀ i₀ cover charged entered numbers p i = Adding file trailer numbers₀ i p cover charged entered numbers
 
 abbrev μ-loop : tie.MeasureT-loop
-μ-loop file t counts outers chain cover₀ charged₀ entered₀ numbers₀ n p₀ i₀ cover charged entered numbers p i = n - i
+μ-loop file trailer counts outers chain cover₀ charged₀ entered₀ numbers₀ n p₀ i₀ cover charged entered numbers p i = n - i
 
 -- where the place of the first fact is computed
 abbrev start : tie.After-struct-known Inv-loop μ-loop → tie.Start Inv-loop μ-loop

@@ -22,15 +22,15 @@ first c = c .before .before .before
 abbrev start : tie.After-limit-at → tie.Start
 start c = first (c .before .before)
 
-scope : (c : tie.After-limit-at) → c .before .before .scope-at .result ≢ none → c .before .before .scope-at .result < start c .args .t .loops
+scope : (c : tie.After-limit-at) → c .before .before .scope-at .result ≢ none → c .before .before .scope-at .result < start c .args .trailer .loops
 scope c = scope-low _ _ _ _ (c .before .before .scope-at .ensures) (start c .pre .1 .0)
 
-fits : (c : tie.After-range-at) → (c .range-at .result .first ≤ c .range-at .result .last) × (c .range-at .result .last < start (c .before) .args .t .nodes)
+fits : (c : tie.After-range-at) → (c .range-at .result .first ≤ c .range-at .result .last) × (c .range-at .result .last < start (c .before) .args .trailer .nodes)
 fits c = scope-fits _ _ _ _ _ (start (c .before) .pre .0) (scope (c .before)) (c .range-at .ensures)
 
 next : (c : tie.After-range-at) →
     let a = start (c .before) .args in
-    rowPlace (a .p) (size (c .range-at .result)) ≡ factEnd (a .file .now) (a .t) (a .p)
+    rowPlace (a .p) (size (c .range-at .result)) ≡ factEnd (a .file .now) (a .trailer) (a .p)
 next c = next-is _ _ _ _ _ (c .before .before .before .scope-at .ensures) (c .range-at .ensures)
 
 returns : tie.Need-returns

@@ -8,10 +8,10 @@ use Rattle.charge.proofs.nodes.charge_nodes.Statement.{statement}
 use Rattle.charge.proofs.nodes.charge_nodes.Tie as tie
 
 abbrev Inv-loop : tie.InvT-loop
-Inv-loop file t counts cover fetched₀ spent₀ n v₀ fetched spent v = Walking file t v fetched spent
+Inv-loop file trailer counts cover fetched₀ spent₀ n v₀ fetched spent v = Walking file trailer v fetched spent
 
 abbrev μ-loop : tie.MeasureT-loop
-μ-loop file t counts cover fetched₀ spent₀ n v₀ fetched spent v = n - v
+μ-loop file trailer counts cover fetched₀ spent₀ n v₀ fetched spent v = n - v
 
 -- where the loop comes by
 abbrev start : tie.At-loop Inv-loop μ-loop → tie.Start Inv-loop μ-loop

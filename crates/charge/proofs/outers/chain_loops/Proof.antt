@@ -10,10 +10,10 @@ use Rattle.charge.proofs.outers.chain_loops.Statement.{statement}
 use Rattle.charge.proofs.outers.chain_loops.Tie as tie
 
 abbrev Inv-loop : tie.InvT-loop
-Inv-loop file t outers₀ n j₀ outers j = (j ≤ n) × Outers (caseOf file t) j outers
+Inv-loop file trailer outers₀ n j₀ outers j = (j ≤ n) × Outers (caseOf file trailer) j outers
 
 abbrev μ-loop : tie.MeasureT-loop
-μ-loop file t outers₀ n j₀ outers j = n - j
+μ-loop file trailer outers₀ n j₀ outers j = n - j
 
 -- where the loop begins a turn
 abbrev start : tie.In-loop Inv-loop μ-loop → tie.Start Inv-loop μ-loop
@@ -30,7 +30,7 @@ returns : tie.Need-returns Inv-loop μ-loop
 returns c =
     let a = c .before .before .before .args in
     let w = c .before .loop .inv in
-    at-end (λ n. Outers (caseOf (a .file .now) (a .t)) n (c .before .loop .outers)) _ _ (w .0) (c .loop-test .left) (w .1)
+    at-end (λ n. Outers (caseOf (a .file .now) (a .trailer)) n (c .before .loop .outers)) _ _ (w .0) (c .loop-test .left) (w .1)
 
 pub chain-loops-spec : {M : Type 1} → statement M
 chain-loops-spec =

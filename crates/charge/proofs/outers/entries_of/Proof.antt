@@ -15,7 +15,7 @@ use Rattle.charge.proofs.outers.entries_of.Tie as tie
 abbrev start : tie.Else1 → tie.Start
 start c = c .before .before .before
 
-scope : (c : tie.Else1) → start c .args .w < start c .args .t .loops
+scope : (c : tie.Else1) → start c .args .w < start c .args .trailer .loops
 scope c = start c .pre .1 .1 .1 (c .if1 .left)
 
 returns : tie.Need-returns
@@ -38,7 +38,7 @@ loop-at-requires c κs =
 header : (c : tie.After-loop-at) →
     let a = start (c .before .before .before) .args in
     let n = getD (a .counts .now) (c .loop-at .result .first) 0 in
-    (c .loop-at .result .first < a .t .nodes) × ((n ≡ entries (caseOf (a .file .now) (a .t)) (factAt (a .file .now) (a .p))) × (n ≤ mostCount))
+    (c .loop-at .result .first < a .trailer .nodes) × ((n ≡ entries (caseOf (a .file .now) (a .trailer)) (factAt (a .file .now) (a .p))) × (n ≤ mostCount))
 header c =
     let e = c .before .before .before in
     let p = start e .pre in

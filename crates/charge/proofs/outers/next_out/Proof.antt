@@ -9,10 +9,10 @@ use Rattle.charge.proofs.outers.next_out.Statement.{statement}
 use Rattle.charge.proofs.outers.next_out.Tie as tie
 
 abbrev Inv-loop : tie.InvT-loop
-Inv-loop file t outers j header c₀ c = Passing (caseOf file t) j c
+Inv-loop file trailer outers j header c₀ c = Passing (caseOf file trailer) j c
 
 abbrev μ-loop : tie.MeasureT-loop
-μ-loop file t outers j header c₀ c = c
+μ-loop file trailer outers j header c₀ c = c
 
 -- where the loop begins a turn
 abbrev start : tie.In-loop Inv-loop μ-loop → tie.Start Inv-loop μ-loop
@@ -22,7 +22,7 @@ start c = c .before .before .before .before
 abbrev turn : tie.Else1 Inv-loop μ-loop → tie.In-loop Inv-loop μ-loop
 turn c = c .before .before .before
 
-low : (c : tie.In-loop Inv-loop μ-loop) → (c .before .loop .c - 1 < start c .args .j) × (c .before .loop .c - 1 < start c .args .t .loops)
+low : (c : tie.In-loop Inv-loop μ-loop) → (c .before .loop .c - 1 < start c .args .j) × (c .before .loop .c - 1 < start c .args .trailer .loops)
 unfolding caseOf
 low c = let p = start c .pre in passing-low _ (p .1 .0) _ (p .1 .1 .1) _ (c .before .loop .inv) (c .loop-test .taken)
 
@@ -41,7 +41,7 @@ more : (c : tie.After-c Inv-loop μ-loop) →
     let i = turn (c .before) in
     let a = start i .args in
     let n = getD (a .outers .now) (i .before .loop .c - 1) 0 in
-    (n < i .before .loop .c) × Passing (caseOf (a .file .now) (a .t)) (a .j) n
+    (n < i .before .loop .c) × Passing (caseOf (a .file .now) (a .trailer)) (a .j) n
 unfolding caseOf
 more c =
     let e = c .before in

@@ -14,11 +14,11 @@ use Rattle.charge.proofs.sets.charge_sets.Statement.{statement}
 use Rattle.charge.proofs.sets.charge_sets.Tie as tie
 
 abbrev Inv-loop : tie.InvT-loop
-Inv-loop file t charged entered fetched spent numbers₀ n total₀ q₀ numbers total q =
-    Part (caseOf file t) 0 q (t .facts) numbers₀ numbers × Added (setBound (caseOf file t)) largestA (t .sets) total q
+Inv-loop file trailer charged entered fetched spent numbers₀ n total₀ q₀ numbers total q =
+    Part (caseOf file trailer) 0 q (trailer .facts) numbers₀ numbers × Added (setBound (caseOf file trailer)) largestA (trailer .sets) total q
 
 abbrev μ-loop : tie.MeasureT-loop
-μ-loop file t charged entered fetched spent numbers₀ n total₀ q₀ numbers total q = n - q
+μ-loop file trailer charged entered fetched spent numbers₀ n total₀ q₀ numbers total q = n - q
 
 -- where a turn begins
 abbrev start : tie.In-loop Inv-loop μ-loop → tie.Start Inv-loop μ-loop

@@ -12,10 +12,10 @@ use Rattle.charge.proofs.sets.least_floor.Statement.{statement}
 use Rattle.charge.proofs.sets.least_floor.Tie as tie
 
 abbrev Inv-loop : tie.InvT-loop
-Inv-loop file t charged entered fetched spent q a k m₀ x₀ j₀ m x j = Flooring (caseOf file t) q a m x j
+Inv-loop file trailer charged entered fetched spent q a k m₀ x₀ j₀ m x j = Flooring (caseOf file trailer) q a m x j
 
 abbrev μ-loop : tie.MeasureT-loop
-μ-loop file t charged entered fetched spent q a k m₀ x₀ j₀ m x j = k - j
+μ-loop file trailer charged entered fetched spent q a k m₀ x₀ j₀ m x j = k - j
 
 loop-holds : tie.Need-loop-holds Inv-loop μ-loop
 loop-holds c = let p = c .before .before .before .pre in flooring-start _ _ _ _ _ _ (p .0) _ (p .1) _

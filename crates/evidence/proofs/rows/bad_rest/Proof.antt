@@ -11,10 +11,10 @@ use Rattle.evidence.proofs.rows.bad_rest.Statement.{statement}
 use Rattle.evidence.proofs.rows.bad_rest.Tie as tie
 
 abbrev Inv-loop : tie.InvT-loop
-Inv-loop file at n k₀ k = Passed (unfree n (rowAt file at)) 7 k × (n ≤ k)
+Inv-loop file at n i₀ i = Passed (unfree n (rowAt file at)) 7 i × (n ≤ i)
 
 abbrev μ-loop : tie.MeasureT-loop
-μ-loop file at n k₀ k = 7 - k
+μ-loop file at n i₀ i = 7 - i
 
 loop-holds : tie.Need-loop-holds Inv-loop μ-loop
 loop-holds c = (record { within = search needs; none = unfree-before _ _ }, search needs)

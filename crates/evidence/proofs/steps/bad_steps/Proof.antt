@@ -7,10 +7,10 @@ use Rattle.evidence.proofs.steps.bad_steps.Statement.{statement}
 use Rattle.evidence.proofs.steps.bad_steps.Tie as tie
 
 abbrev Inv-loop : tie.InvT-loop
-Inv-loop file t h i₀ i = Reached file t h i
+Inv-loop file trailer h i₀ i = Reached file trailer h i
 
 abbrev μ-loop : tie.MeasureT-loop
-μ-loop file t h i₀ i = t .edges - i
+μ-loop file trailer h i₀ i = trailer .edges - i
 
 loop-holds : tie.Need-loop-holds Inv-loop μ-loop
 loop-holds c = reached-start _ _ _ (c .before .before .pre .1 .1 .0) _ (c .first-edge .ensures)

@@ -8,10 +8,10 @@ use Rattle.evidence.proofs.steps.first_edge.Statement.{statement}
 use Rattle.evidence.proofs.steps.first_edge.Tie as tie
 
 abbrev Inv-loop : tie.InvT-loop
-Inv-loop file t v low₀ high₀ low high = Splits file t v low high
+Inv-loop file trailer v low₀ high₀ low high = Splits file trailer v low high
 
 abbrev μ-loop : tie.MeasureT-loop
-μ-loop file t v low₀ high₀ low high = high - low
+μ-loop file trailer v low₀ high₀ low high = high - low
 
 loop-again : tie.Need-loop-again Inv-loop μ-loop
 loop-again c =

@@ -11,10 +11,10 @@ use Rattle.evidence.proofs.steps.holds.Statement.{statement}
 use Rattle.evidence.proofs.steps.holds.Tie as tie
 
 abbrev Inv-loop : tie.InvT-loop
-Inv-loop file at n x k₀ k = Passed (λ k. eqb (rowAt file at .slot k) x) n k
+Inv-loop file at n x i₀ i = Passed (λ i. eqb (rowAt file at .slot i) x) n i
 
 abbrev μ-loop : tie.MeasureT-loop
-μ-loop file at n x k₀ k = n - k
+μ-loop file at n x i₀ i = n - i
 
 returns : tie.Need-returns Inv-loop μ-loop
 unfolding holds

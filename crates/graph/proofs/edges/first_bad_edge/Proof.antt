@@ -9,11 +9,11 @@ use Rattle.graph.proofs.edges.first_bad_edge.Statement.{statement}
 use Rattle.graph.proofs.edges.first_bad_edge.Tie as tie
 
 abbrev Inv-loop : tie.InvT-loop
-Inv-loop file t i₀ a₀ b₀ i a b =
-    Passed (badEdge (caseOf file t)) (t .edges) i × IsBefore (caseOf file t .from) i a × IsBefore (caseOf file t .to) i b
+Inv-loop file trailer i₀ a₀ b₀ i a b =
+    Passed (badEdge (caseOf file trailer)) (trailer .edges) i × IsBefore (caseOf file trailer .from) i a × IsBefore (caseOf file trailer .to) i b
 
 abbrev μ-loop : tie.MeasureT-loop
-μ-loop file t i₀ a₀ b₀ i a b = t .edges - i
+μ-loop file trailer i₀ a₀ b₀ i a b = trailer .edges - i
 
 loop-holds : tie.Need-loop-holds Inv-loop μ-loop
 loop-holds c = (passed-start _ _, before-start _ _, before-start _ _)

@@ -10,10 +10,10 @@ use Rattle.graph.proofs.edges.first_edge.Statement.{statement}
 use Rattle.graph.proofs.edges.first_edge.Tie as tie
 
 abbrev Inv-loop : tie.InvT-loop
-Inv-loop file t table rule i₀ i = Passed (edgeRule (caseOf file t) rule) (t .edges) i
+Inv-loop file trailer table rule i₀ i = Passed (edgeRule (caseOf file trailer) rule) (trailer .edges) i
 
 abbrev μ-loop : tie.MeasureT-loop
-μ-loop file t table rule i₀ i = t .edges - i
+μ-loop file trailer table rule i₀ i = trailer .edges - i
 
 shared-slice-read-breaks : tie.Need-shared-slice-read-breaks Inv-loop μ-loop
 unfolding caseOf
@@ -28,7 +28,7 @@ test : (c : tie.After-breaks Inv-loop μ-loop) →
     let d = c .before .before in
     let s = d .before .before .before .before in
     let a = s .before .before .before .args in
-    c .breaks .result ≡ edgeRule (caseOf (a .file .now) (a .t)) (a .rule) (s .loop .i)
+    c .breaks .result ≡ edgeRule (caseOf (a .file .now) (a .trailer)) (a .rule) (s .loop .i)
 unfolding caseOf
 test c =
     let d = c .before .before in

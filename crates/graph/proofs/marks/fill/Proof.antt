@@ -7,10 +7,10 @@ use Rattle.graph.proofs.marks.fill.Statement.{statement}
 use Rattle.graph.proofs.marks.fill.Tie as tie
 
 abbrev Inv-loop : tie.InvT-loop
-Inv-loop table₀ from to x k₀ table k = (from ≤ k) × (k ≤ to) × Filled table₀ table from k x
+Inv-loop table₀ from to x i₀ table i = (from ≤ i) × (i ≤ to) × Filled table₀ table from i x
 
 abbrev μ-loop : tie.MeasureT-loop
-μ-loop table₀ from to x k₀ table k = to - k
+μ-loop table₀ from to x i₀ table i = to - i
 
 loop-holds : tie.Need-loop-holds Inv-loop μ-loop
 loop-holds c = (omega arith, omega arith, filled-start _ _ _)

@@ -14,11 +14,11 @@ use Rattle.graph.proofs.marks.mark_nodes.Statement.{statement}
 use Rattle.graph.proofs.marks.mark_nodes.Tie as tie
 
 abbrev Inv-loop : tie.InvT-loop
-Inv-loop file t table₀ rule start loops j₀ table j =
-    (j ≤ t .loops) × (length table ≡ length table₀) × Holds (λ v. markedTo (marks (caseOf file t) rule) start v j) (t .nodes) table
+Inv-loop file trailer table₀ rule start loops j₀ table j =
+    (j ≤ trailer .loops) × (length table ≡ length table₀) × Holds (λ v. markedTo (marks (caseOf file trailer) rule) start v j) (trailer .nodes) table
 
 abbrev μ-loop : tie.MeasureT-loop
-μ-loop file t table₀ rule start loops j₀ table j = t .loops - j
+μ-loop file trailer table₀ rule start loops j₀ table j = trailer .loops - j
 
 loop-holds : tie.Need-loop-holds Inv-loop μ-loop
 loop-holds c =
@@ -30,7 +30,7 @@ is-mark : (c : tie.After-loop-mark Inv-loop μ-loop) →
     let i = c .before .before .before .before .before in
     let f = i .before .before .before .before in
     let a = f .before .before .before .before .before .args in
-    c .loop-mark .result ≡ marks (caseOf (a .file .now) (a .t)) (a .rule) (i .loop .j)
+    c .loop-mark .result ≡ marks (caseOf (a .file .now) (a .trailer)) (a .rule) (i .loop .j)
 is-mark c =
     let i = c .before .before .before .before .before in
     handed-mark _ _ _ _ _ _ _ (i .before .loops-of .ensures) (c .before .before .before .if1 .taken)

@@ -7,10 +7,10 @@ use Rattle.graph.proofs.nesting.crossed.Statement.{statement}
 use Rattle.graph.proofs.nesting.crossed.Tie as tie
 
 abbrev Inv-loop : tie.InvT-loop
-Inv-loop file t i l j₀ j = Passed (λ k. crosses (loopAt file t k) l) i j
+Inv-loop file trailer i l j₀ j = Passed (λ k. crosses (loopAt file trailer k) l) i j
 
 abbrev μ-loop : tie.MeasureT-loop
-μ-loop file t i l j₀ j = i - j
+μ-loop file trailer i l j₀ j = i - j
 
 loop-holds : tie.Need-loop-holds Inv-loop μ-loop
 loop-holds c = passed-start _ _

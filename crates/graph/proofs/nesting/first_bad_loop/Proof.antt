@@ -10,10 +10,10 @@ use Rattle.graph.proofs.nesting.first_bad_loop.Statement.{statement}
 use Rattle.graph.proofs.nesting.first_bad_loop.Tie as tie
 
 abbrev Inv-loop : tie.InvT-loop
-Inv-loop file t i₀ h₀ i h = Passed (badLoop (caseOf file t)) (t .loops) i × IsBefore (λ j. caseOf file t .loop j .first) i h
+Inv-loop file trailer i₀ h₀ i h = Passed (badLoop (caseOf file trailer)) (trailer .loops) i × IsBefore (λ j. caseOf file trailer .loop j .first) i h
 
 abbrev μ-loop : tie.MeasureT-loop
-μ-loop file t i₀ h₀ i h = t .loops - i
+μ-loop file trailer i₀ h₀ i h = trailer .loops - i
 
 loop-holds : tie.Need-loop-holds Inv-loop μ-loop
 loop-holds c = (passed-start _ _, before-start _ _)

@@ -7,10 +7,10 @@ use Rattle.try_files.proofs.small.put_loops.Statement.{statement}
 use Rattle.try_files.proofs.small.put_loops.Tie as tie
 
 abbrev Inv-loop : tie.InvT-loop
-Inv-loop file₀ t bound j₀ file j = length file ≡ length file₀
+Inv-loop file₀ trailer bound j₀ file j = length file ≡ length file₀
 
 abbrev μ-loop : tie.MeasureT-loop
-μ-loop file₀ t bound j₀ file j = t .loops - j
+μ-loop file₀ trailer bound j₀ file j = trailer .loops - j
 
 pub put-loops-spec : {M : Type 1} → statement M
 put-loops-spec =
