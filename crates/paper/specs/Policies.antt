@@ -53,9 +53,19 @@ fifo = record { ways = waysFrom 1; bits = λ k. 1; step = fifoStep; bound = fifo
 abbrev pub nmru : Parts
 nmru = record { ways = waysFrom 2; bits = λ k. 2 ^ k - 1; step = nmruStep; bound = nmruBound; floors = false }
 
--- "policy (0 LRU, 1 FIFO, 2 NMRU)": `offered` refuses what is above the last, whose parts are then nobody's.
+-- "policy (0 LRU, 1 FIFO, 2 NMRU)"
+abbrev pub lruPolicy : ℕ
+lruPolicy = 0
+
+abbrev pub fifoPolicy : ℕ
+fifoPolicy = 1
+
+abbrev pub nmruPolicy : ℕ
+nmruPolicy = 2
+
+-- `offered` refuses what is above the last, whose parts are then nobody's.
 abbrev pub lastPolicy : ℕ
-lastPolicy = 2
+lastPolicy = nmruPolicy
 
 abbrev pub partsOf : ℕ → Parts
-partsOf policy = cond (eqb policy 0) lru (cond (eqb policy 1) fifo nmru)
+partsOf policy = cond (eqb policy lruPolicy) lru (cond (eqb policy fifoPolicy) fifo nmru)
