@@ -1,4 +1,2 @@
-pub mod Going
 pub mod Refusals
-pub mod Held
-pub mod Eights
+pub mod EightLaws

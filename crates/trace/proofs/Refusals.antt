@@ -16,8 +16,8 @@ use Rattle.paper.specs.Traces.{Run, refusedRun, badAccess, traceRun}
 use Rattle.paper.proofs.Least.{none-some}
 use Rattle.paper.proofs.Says.{says-true, both}
 use Rattle.paper.proofs.States.{says-sets}
-use Rattle.trace.specs.TraceRuns.{made, Runs, Ran}
-use Rattle.trace.proofs.Going.{length-marks}
+use Rattle.runs.specs.TraceRuns.{made, Runs, Ran}
+use Rattle.runs.proofs.Going.{length-marks}
 
 module _ (p w s : ℕ) (bs ms : List ℕ) where
   -- a run whose whole outcome is known, in the two parts of the contract

@@ -7,7 +7,7 @@ use borrow.Author.Needs.{needs}
 use borrow.Author.Tests.{eq-eqb, ne-eqb}
 use Rattle.paper.specs.Traces.{badAccess}
 use Rattle.paper.proofs.Least.{Passed, passed-more, least-found, least-end}
-use Rattle.trace.proofs.Eights.{clear-passed}
+use Rattle.trace.proofs.EightLaws.{clear-passed}
 use Rattle.trace.proofs.bad_access.Statement.{statement}
 use Rattle.trace.proofs.bad_access.Tie as tie
 

@@ -3,7 +3,7 @@ use native.Mathlib.Nat.{add-zero}
 use borrow.Author.Needs.{needs}
 use Rattle.paper.specs.Lists.{table}
 use Rattle.paper.specs.Traces.{badAccess}
-use Rattle.trace.specs.TraceRuns.{someOf}
+use Rattle.trace.specs.Eights.{someOf}
 use Rattle.trace.proofs.has_none.Statement.{statement}
 use Rattle.trace.proofs.has_none.Tie as tie
 

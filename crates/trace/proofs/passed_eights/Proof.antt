@@ -4,8 +4,8 @@ use native.Mathlib.Omega.{arith}
 use mathlib.Core.Path.{sym, _∙_}
 use lib.ListN.{length}
 use borrow.Author.Needs.{needs}
-use Rattle.trace.specs.TraceRuns.{Clear}
-use Rattle.trace.proofs.Eights.{clear-start, clear-more}
+use Rattle.trace.specs.Eights.{Clear}
+use Rattle.trace.proofs.EightLaws.{clear-start, clear-more}
 use Rattle.trace.proofs.passed_eights.Statement.{statement}
 use Rattle.trace.proofs.passed_eights.Tie as tie
 

@@ -1,8 +1,8 @@
 -- What a trace run that is not refused asks for and gives, and the contents that the run's arrays hold.
 use Prim.Native.Nat.{ℕ, _<_, _≤_}
 use mathlib.Core.Path.{_≡_}
-use mathlib.Core.Bool.{Bool, true, false, cond, _||_}
-use mathlib.Core.List.{List, [], _∷_, _++_}
+use mathlib.Core.Bool.{true, false, cond}
+use mathlib.Core.List.{List, [], _++_}
 use lib.Dec.{eqb}
 use lib.ListN.{length, getD, drop}
 use Rattle.paper.specs.declared.SetState.{SetState}
@@ -35,14 +35,3 @@ pub record Runs (p k sets : ℕ) (blocks lent : List ℕ) : Type 0 where
 pub record Ran (p k sets : ℕ) (blocks lent : List ℕ) (misses : ℕ) (out : List ℕ) : Type 0 where
   pub counted : misses ≡ total (made p k sets blocks)
   pub written : out ≡ made p k sets blocks ++ drop (length blocks) lent
-
--- Whether one of the list is true.
-unfoldable pub someOf : List Bool → Bool
-someOf [] = false
-someOf (x ∷ []) = x
-someOf (x ∷ y ∷ l) = x || someOf (y ∷ l)
-
--- No access before i has block none.
-pub record Clear (blocks : List ℕ) (i : ℕ) : Type 0 where
-  pub within : i ≤ length blocks
-  pub none : (j : ℕ) → j < i → badAccess blocks j ≡ false

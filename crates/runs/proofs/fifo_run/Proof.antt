@@ -1,4 +1,4 @@
--- `trace::fifo_run` meets its contract, by the law of the loop.
+-- `runs::fifo_run` meets its contract, by the law of the loop.
 use Prim.Native.Nat.{ℕ, _-_, _%_, _<_}
 use native.Mathlib.Omega.{arith}
 use mathlib.Core.Path.{_≡_, refl, ap, _∙_}
@@ -9,11 +9,11 @@ use borrow.Author.Tests.{not-false}
 use Rattle.paper.specs.declared.Sets.{Sets}
 use Rattle.paper.proofs.Says.{says-true}
 use Rattle.paper.proofs.States.{says-offered}
-use Rattle.trace.specs.TraceRuns.{held}
-use Rattle.trace.proofs.Going.{Going, going-start, going-more, going-end, set-ready, no-none}
-use Rattle.trace.proofs.Held.{Stored, stored, unchanged, held-at, held-empty, sets-known, step-fifo, fifo-same}
-use Rattle.trace.proofs.fifo_run.Statement.{statement}
-use Rattle.trace.proofs.fifo_run.Tie as tie
+use Rattle.runs.specs.TraceRuns.{held}
+use Rattle.runs.proofs.Going.{Going, going-start, going-more, going-end, set-ready, no-none}
+use Rattle.runs.proofs.Held.{Stored, stored, unchanged, held-at, held-empty, sets-known, step-fifo, fifo-same}
+use Rattle.runs.proofs.fifo_run.Statement.{statement}
+use Rattle.runs.proofs.fifo_run.Tie as tie
 
 abbrev Inv-loop : tie.InvT-loop
 Inv-loop k sets blocks marks₀ all beyond states₀ misses₀ i₀ marks states misses i = Going 1 k sets blocks marks₀ marks (held states) misses i × (length states ≡ 64)

@@ -1,4 +1,4 @@
--- `trace::lru_run` meets its contract, by the law of the loop.
+-- `runs::lru_run` meets its contract, by the law of the loop.
 use Prim.Native.Nat.{ℕ, _-_, _%_, _<_}
 use native.Mathlib.Omega.{arith}
 use mathlib.Core.Path.{_≡_, refl, ap, _∙_}
@@ -9,11 +9,11 @@ use Rattle.paper.specs.declared.Sets.{Sets}
 use Rattle.paper.specs.Shifts.{shiftAt}
 use Rattle.paper.proofs.Says.{says-true}
 use Rattle.paper.proofs.States.{says-offered}
-use Rattle.trace.specs.TraceRuns.{heldApart}
-use Rattle.trace.proofs.Going.{Going, going-start, going-same, going-more, going-end, set-ready, no-none}
-use Rattle.trace.proofs.Held.{Turned, stays, turns, apart-here, apart-other, apart-empty, sets-known, shift-known, step-lru}
-use Rattle.trace.proofs.lru_run.Statement.{statement}
-use Rattle.trace.proofs.lru_run.Tie as tie
+use Rattle.runs.specs.TraceRuns.{heldApart}
+use Rattle.runs.proofs.Going.{Going, going-start, going-same, going-more, going-end, set-ready, no-none}
+use Rattle.runs.proofs.Held.{Turned, stays, turns, apart-here, apart-other, apart-empty, sets-known, shift-known, step-lru}
+use Rattle.runs.proofs.lru_run.Statement.{statement}
+use Rattle.runs.proofs.lru_run.Tie as tie
 
 abbrev Inv-loop : tie.InvT-loop
 Inv-loop k sets blocks marks₀ all shift₀ states₀ state₀ last₀ misses₀ i₀ marks shift states state last misses i =

@@ -10,7 +10,7 @@ use lib.ListN.{length}
 use Rattle.paper.specs.Lists.{table}
 use Rattle.paper.specs.Traces.{badAccess}
 use Rattle.paper.proofs.Least.{Passed}
-use Rattle.trace.specs.TraceRuns.{someOf, Clear}
+use Rattle.trace.specs.Eights.{someOf, Clear}
 
 either : (a b : Bool) → (a || b) ≡ false → (a ≡ false) × (b ≡ false)
 either false b h = (refl, h)

@@ -22,7 +22,7 @@ use Rattle.paper.proofs.Says.{says-true}
 use Rattle.paper.proofs.States.{says-offered, empty-legal}
 use Rattle.paper.proofs.MoveLaws.{legal-ready, nmru-bits}
 use Rattle.theory.proofs.View as View
-use Rattle.trace.specs.TraceRuns.{made, Runs, Ran}
+use Rattle.runs.specs.TraceRuns.{made, Runs, Ran}
 
 pub same-content : {c d : Content} → ((q : ℕ) → c q ≡ d q) → c ≡ d
 same-content h = λ j q. h q j

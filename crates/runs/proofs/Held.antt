@@ -15,7 +15,7 @@ use Rattle.paper.specs.declared.Shift.{Shift}
 use Rattle.paper.specs.declared.Sets.{Sets}
 use Rattle.paper.specs.Machines.{emptySet, hits, lruStep, fifoStep, nmruStep, step}
 use Rattle.paper.specs.Shifts.{shiftAt, setsOf}
-use Rattle.trace.specs.TraceRuns.{held, heldApart, noLines}
+use Rattle.runs.specs.TraceRuns.{held, heldApart, noLines}
 
 alike : {A : Type 0} (n q : ℕ) (x : A) → getD (replicate n x) q x ≡ x
 alike zero q x = refl

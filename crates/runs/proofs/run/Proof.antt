@@ -1,12 +1,12 @@
--- `trace::run` meets its contract.
+-- `runs::run` meets its contract.
 use native.Mathlib.Omega.{arith}
 use mathlib.Core.Path.{_≡_, sym}
 use borrow.Author.Needs.{needs}
 use Rattle.paper.proofs.Says.{says-true}
 use Rattle.paper.proofs.States.{says-offered}
-use Rattle.trace.proofs.Going.{runs-at, ran-at}
-use Rattle.trace.proofs.run.Statement.{statement}
-use Rattle.trace.proofs.run.Tie as tie
+use Rattle.runs.proofs.Going.{runs-at, ran-at}
+use Rattle.runs.proofs.run.Statement.{statement}
+use Rattle.runs.proofs.run.Tie as tie
 
 lru-run-requires : tie.Need-lru-run-requires
 lru-run-requires c κs = runs-at (c .before .if1 .taken) (c .before .before .before .before .pre)

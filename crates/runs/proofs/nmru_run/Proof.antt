@@ -1,4 +1,4 @@
--- `trace::nmru_run` meets its contract, by the law of the loop.
+-- `runs::nmru_run` meets its contract, by the law of the loop.
 use Prim.Native.Nat.{ℕ, _+_, _-_, _%_, _<_}
 use native.Mathlib.Omega.{arith}
 use mathlib.Core.Path.{_≡_, refl, ap, _∙_}
@@ -6,11 +6,11 @@ use mathlib.Core.Logic.{⊎-elim}
 use lib.ListN.{length, getD, length-set}
 use borrow.Author.Needs.{needs}
 use Rattle.paper.specs.declared.Sets.{Sets}
-use Rattle.trace.specs.TraceRuns.{heldApart}
-use Rattle.trace.proofs.Going.{Going, going-start, going-same, going-more, going-end, set-ready, set-bits, no-none}
-use Rattle.trace.proofs.Held.{Turned, stays, turns, apart-here, apart-other, apart-empty, sets-known, step-nmru}
-use Rattle.trace.proofs.nmru_run.Statement.{statement}
-use Rattle.trace.proofs.nmru_run.Tie as tie
+use Rattle.runs.specs.TraceRuns.{heldApart}
+use Rattle.runs.proofs.Going.{Going, going-start, going-same, going-more, going-end, set-ready, set-bits, no-none}
+use Rattle.runs.proofs.Held.{Turned, stays, turns, apart-here, apart-other, apart-empty, sets-known, step-nmru}
+use Rattle.runs.proofs.nmru_run.Statement.{statement}
+use Rattle.runs.proofs.nmru_run.Tie as tie
 
 abbrev Inv-loop : tie.InvT-loop
 Inv-loop k sets blocks marks₀ all next guesses₀ states₀ state₀ last₀ misses₀ i₀ marks guesses states state last misses i =
