@@ -12,10 +12,13 @@ use lib.ListN.{length, getD, take, drop, set, length-set}
 use lib.Seq.{drop-cons, take-suc, set-at, length-take-le, getD-drop, drop-drop, take-all}
 use borrow.Author.Tests.{eq-eqb, ne-eqb, eqb-false}
 use Rattle.paper.specs.declared.SetState.{SetState}
+use Rattle.paper.specs.declared.Sets.{Sets}
 use Rattle.paper.specs.declared.Stepped.{Stepped}
 use Rattle.paper.specs.Lists.{bit}
 use Rattle.paper.specs.Machines.{none, emptySet, step}
+use Rattle.paper.specs.Policies.{nmruPolicy}
 use Rattle.paper.specs.Ready.{Ready}
+use Rattle.paper.specs.Shifts.{setsOf}
 use Rattle.paper.specs.Traces.{Content, after, missAt, marks, total, badAccess}
 use Rattle.paper.specs.Runs.{LegalSet}
 use Rattle.paper.proofs.Says.{says-true}
@@ -69,7 +72,24 @@ pub record Going (p k sets : ℕ) (blocks lent out : List ℕ) (c : Content) (mi
   pub same : length out ≡ length lent
   pub legal : (q : ℕ) → LegalSet p k (c q)
 
-module _ (p k sets : ℕ) (blocks lent : List ℕ) (ok : Runs p k sets blocks lent) where
+-- access i, and the set that its block lives in
+pub record Access (sets : ℕ) (blocks : List ℕ) (i at : ℕ) : Type 0 where
+  pub within : i < length blocks
+  pub home : at ≡ getD blocks i 0 % sets
+  pub low : at < 64
+
+module _ {p k sets : ℕ} {blocks lent : List ℕ} (ok : Runs p k sets blocks lent) where
+  pub few-ways : k ≤ 8
+  few-ways = says-true (says-offered p k) (ok .offers) .most
+
+  -- what is asked for a block's set, and what is found
+  module _ (n : Sets) (e : n ≡ setsOf sets) where
+    pub sets-ready : ((0 < n .count) × (n .count ≤ 64)) × (n ≡ setsOf (n .count))
+    sets-ready = subst (λ (x : Sets). ((0 < x .count) × (x .count ≤ 64)) × (x ≡ setsOf (x .count))) (sym e) ((ok .low, ok .high), refl)
+
+    pub access-is : {i at : ℕ} → i < length blocks → at ≡ getD blocks i 0 % n .count → at < 64 → Access sets blocks i at
+    access-is {i} {at} h f l = record { within = h; home = f ∙ ap (λ (x : Sets). getD blocks i 0 % x .count) e; low = l }
+
   pub going-start : (c : Content) → ((q : ℕ) → c q ≡ emptySet) → Going p k sets blocks lent lent c 0 0
   unfolding made total
   going-start c e =
@@ -83,7 +103,7 @@ module _ (p k sets : ℕ) (blocks lent : List ℕ) (ok : Runs p k sets blocks le
         legal = λ q. subst (LegalSet p k) (sym (e q)) (record { eight = refl; legal = empty-legal p k (says-true (says-offered p k) (ok .offers) .least) });
       }
 
-  module _ (out : List ℕ) (c : Content) (misses i : ℕ) (g : Going p k sets blocks lent out c misses i) where
+  module _ {out : List ℕ} {c : Content} {misses i : ℕ} (g : Going p k sets blocks lent out c misses i) where
     -- the same states, held in another way
     pub going-same : (d : Content) → ((q : ℕ) → d q ≡ c q) → Going p k sets blocks lent out d misses i
     going-same d e = subst (λ (x : Content). Going p k sets blocks lent out x misses i) (sym (same-content e)) g
@@ -96,37 +116,37 @@ module _ (p k sets : ℕ) (blocks lent : List ℕ) (ok : Runs p k sets blocks le
       pub set-ready : Ready k (s .lines)
       set-ready = legal-ready p k s (set-legal .legal) (says-true (says-offered p k) (ok .offers))
 
-      pub set-bits : p ≡ 2 → s .bits + 1 < 2 ^ k
+      pub set-bits : p ≡ nmruPolicy → s .bits + 1 < 2 ^ k
       set-bits f = nmru-bits p k s (set-legal .legal) f
 
     -- an access: the set's new state, its mark
-    module _ (h : i < length blocks) (b at : ℕ) (eb : b ≡ getD blocks i 0) (ea : at ≡ b % sets)
-        (t : Stepped) (took : t ≡ step p k (c at) b) (d : Content) (here : d at ≡ t .state) (there : (q : ℕ) → (q ≡ at → ⊥) → d q ≡ c q) where
-      set-is : d at ≡ step p k (c at) b .state
-      set-is = here ∙ ap (λ (x : Stepped). x .state) took
+    module _ {at : ℕ} (x : Access sets blocks i at) (t : Stepped) (took : t ≡ step p k (c at) (getD blocks i 0))
+        (d : Content) (here : d at ≡ t .state) (there : (q : ℕ) → (q ≡ at → ⊥) → d q ≡ c q) where
+      set-is : d at ≡ step p k (c at) (getD blocks i 0) .state
+      set-is = here ∙ ap (λ (y : Stepped). y .state) took
 
-      after-at : (q : ℕ) → Dec (q ≡ at) → d q ≡ after p k sets c b q
+      after-at : (q : ℕ) → Dec (q ≡ at) → d q ≡ after p k sets c (getD blocks i 0) q
       unfolding after
       after-at q (yes e) =
-          let f : b % sets ≡ q = sym ea ∙ sym e in
-          rw (eq-eqb (b % sets) q f) (subst (λ (x : ℕ). d x ≡ step p k (c x) b .state) (sym e) set-is)
-      after-at q (no f) = rw (ne-eqb (b % sets) q (λ e. f (sym e ∙ sym ea))) (there q f)
+          let f : getD blocks i 0 % sets ≡ q = sym (x .home) ∙ sym e in
+          rw (eq-eqb (getD blocks i 0 % sets) q f) (subst (λ (y : ℕ). d y ≡ step p k (c y) (getD blocks i 0) .state) (sym e) set-is)
+      after-at q (no f) = rw (ne-eqb (getD blocks i 0 % sets) q (λ e. f (sym e ∙ sym (x .home)))) (there q f)
 
-      after-is : d ≡ after p k sets c b
+      after-is : d ≡ after p k sets c (getD blocks i 0)
       after-is = same-content (λ q. after-at q (ℕ-discrete q at))
 
       kept : (q : ℕ) → Dec (q ≡ at) → LegalSet p k (d q)
       kept q (yes e) =
-          subst (λ (x : ℕ). LegalSet p k (d x)) (sym e)
-          (subst (LegalSet p k) (sym set-is) (View.kept p k (c at) b (ok .offers) (g .legal at)))
+          subst (λ (y : ℕ). LegalSet p k (d y)) (sym e)
+          (subst (LegalSet p k) (sym set-is) (View.kept p k (c at) (getD blocks i 0) (ok .offers) (g .legal at)))
       kept q (no f) = subst (LegalSet p k) (sym (there q f)) (g .legal q)
 
       marked : (m : ℕ) → m ≡ bit (not (t .hit)) → m ≡ getD (made p k sets blocks) i 0
       unfolding missAt
       marked m e =
           e
-          ∙ ap (λ (x : Stepped). bit (not (x .hit))) (took ∙ ap (λ (q : ℕ). step p k (c q) b) ea ∙ ap (λ (x : ℕ). step p k (c (x % sets)) x) eb)
-          ∙ sym (mark-is p k sets c (made p k sets blocks) blocks i h (g .ahead))
+          ∙ ap (λ (y : Stepped). bit (not (y .hit))) (took ∙ ap (λ (q : ℕ). step p k (c q) (getD blocks i 0)) (x .home))
+          ∙ sym (mark-is p k sets c (made p k sets blocks) blocks i (x .within) (g .ahead))
 
       long : length (made p k sets blocks) ≡ length blocks
       unfolding made
@@ -136,11 +156,11 @@ module _ (p k sets : ℕ) (blocks lent : List ℕ) (ok : Runs p k sets blocks le
       going-more m em lm =
           let M = made p k sets blocks in
           let f = marked m em in
-          let w : i < length M = omega (arith, long) in
+          let w : i < length M = omega (arith, long, x .within) in
           record {
-            within = omega arith;
-            written = rw (add-one, g .written, f) (put M lent i w (omega (arith, ok .room)));
-            ahead = rw add-one (rest-is p k sets c M blocks i h (g .ahead) ∙ ap (λ (x : Content). marks p k sets x (drop (suc i) blocks)) (ap (after p k sets c) (sym eb) ∙ sym after-is));
+            within = omega (arith, x .within);
+            written = rw (add-one, g .written, f) (put M lent i w (omega (arith, ok .room, x .within)));
+            ahead = rw add-one (rest-is p k sets c M blocks i (x .within) (g .ahead) ∙ ap (λ (y : Content). marks p k sets y (drop (suc i) blocks)) (sym after-is));
             counted = rw add-one (omega (arith, total-more M i w, g .counted));
             few = omega (arith, g .few);
             same = length-set out i m ∙ g .same;
@@ -155,9 +175,9 @@ module _ (p k sets : ℕ) (blocks lent : List ℕ) (ok : Runs p k sets blocks le
         record { counted = g .counted ∙ ap total e; written = g .written ∙ ap₂ (λ (x : List ℕ) (y : ℕ). x ++ drop y lent) e n }
 
   -- "block 65,535 in a trace" is refused before
-  pub no-none : (i : ℕ) → i < length blocks → getD blocks i 0 ≢ none
+  pub no-none : {i : ℕ} → i < length blocks → getD blocks i 0 ≢ none
   unfolding badAccess
-  no-none i h = eqb-false (getD blocks i 0) none (ok .good i h)
+  no-none {i} h = eqb-false (getD blocks i 0) none (ok .good i h)
 
 -- the policy by its number
 pub runs-at : {p q k s : ℕ} {bs ms : List ℕ} → p ≡ q → Runs p k s bs ms → Runs q k s bs ms

@@ -1,74 +1,87 @@
--- `runs::fifo_run` meets its contract, by the law of the loop.
-use Prim.Native.Nat.{ℕ, _-_, _%_, _<_}
+-- `runs::fifo_run`: an access keeps what holds of a run; a hit changes nothing, so only a miss is stored.
+use Prim.Native.Nat.{_-_, _<_}
 use native.Mathlib.Omega.{arith}
-use mathlib.Core.Path.{_≡_, refl, ap, _∙_}
+use mathlib.Core.Path.{_≡_, refl, sym, ap, _∙_}
 use mathlib.Core.Logic.{⊎-elim}
 use lib.ListN.{length, getD}
 use borrow.Author.Needs.{needs}
 use borrow.Author.Tests.{not-false}
-use Rattle.paper.specs.declared.Sets.{Sets}
-use Rattle.paper.proofs.Says.{says-true}
-use Rattle.paper.proofs.States.{says-offered}
-use Rattle.runs.specs.TraceRuns.{held}
-use Rattle.runs.proofs.Going.{Going, going-start, going-more, going-end, set-ready, no-none}
-use Rattle.runs.proofs.Held.{Stored, stored, unchanged, held-at, held-empty, sets-known, step-fifo, fifo-same}
+use Rattle.paper.specs.declared.SetState.{SetState}
+use Rattle.paper.specs.Machines.{step}
+use Rattle.paper.specs.Policies.{fifoPolicy}
+use Rattle.runs.specs.TraceRuns.{held, noLines}
+use Rattle.runs.proofs.Going.{Going, Access, few-ways, sets-ready, access-is, going-start, going-more, going-end, set-ready, no-none}
+use Rattle.runs.proofs.Held.{Stored, stored, unchanged, held-at, held-empty, fifo-same}
 use Rattle.runs.proofs.fifo_run.Statement.{statement}
 use Rattle.runs.proofs.fifo_run.Tie as tie
 
 abbrev Inv-loop : tie.InvT-loop
-Inv-loop k sets blocks marks₀ all beyond states₀ misses₀ i₀ marks states misses i = Going 1 k sets blocks marks₀ marks (held states) misses i × (length states ≡ 64)
+Inv-loop k sets blocks marks₀ all beyond states₀ misses₀ i₀ marks states misses i = Going fifoPolicy k sets blocks marks₀ marks (held states) misses i × (length states ≡ 64)
 
 abbrev μ-loop : tie.MeasureT-loop
 μ-loop k sets blocks marks₀ all beyond states₀ misses₀ i₀ marks states misses i = length blocks - i
 
-kept-from-requires : tie.Need-kept-from-requires Inv-loop μ-loop
-kept-from-requires c κs = says-true (says-offered 1 _) (c .before .before .before .pre .offers) .most
+-- before the loop: where the number of sets is known, and where the run begins
+abbrev counted : tie.At-loop Inv-loop μ-loop → tie.After-sets-of Inv-loop μ-loop
+counted o = o .before .before
 
-loop-holds : tie.Need-loop-holds Inv-loop μ-loop
-loop-holds c = (going-start 1 _ _ _ _ (c .before .before .before .before .pre) _ (λ q. held-empty 64 q), refl)
+abbrev start : tie.At-loop Inv-loop μ-loop → tie.Start Inv-loop μ-loop
+start o = counted o .before .before .before
+
+-- where an access begins whose set is known
+abbrev access : tie.After-home-in Inv-loop μ-loop → tie.At-loop Inv-loop μ-loop
+access c = c .before .before .before
 
 home-in-requires : tie.Need-home-in-requires Inv-loop μ-loop
 home-in-requires c κs =
-    let r = c .before .before .before .before .before .before .before .pre in
-    sets-known _ _ (c .before .before .before .before .sets-of .ensures) (r .low) (r .high)
+    let o = c .before .before in
+    sets-ready (start o .pre) _ (counted o .sets-of .ensures)
 
--- the set's state, as it is held
+-- the access's set
+home :
+    (c : tie.After-home-in Inv-loop μ-loop) →
+    let o = access c in
+    Access (start o .args .sets) (start o .args .blocks .now) (o .loop .i) (c .home-in .result)
+home c =
+    let o = access c in
+    access-is (start o .pre) _ (counted o .sets-of .ensures) (omega arith) (c .home-in .ensures .0) (c .home-in .ensures .1)
+
+-- and its state
+state : (c : tie.After-home-in Inv-loop μ-loop) → held (access c .loop .states) (c .home-in .result) ≡ getD (access c .loop .states) (c .home-in .result) noLines
+state c = held-at _ _ (omega (arith, access c .loop .inv .1, c .home-in .ensures .1))
+
 fifo-requires : tie.Need-fifo-requires Inv-loop μ-loop
 fifo-requires c κs =
-    let v = c .before .before .before .before .loop in
-    let p = c .before .before .before .before .before .before .before .before .before .pre in
-    let e = held-at (v .states) (c .before .home-in .result) (omega (arith, v .inv .1, c .before .home-in .ensures .1)) in
-    (set-ready 1 _ _ _ _ p _ _ _ _ (v .inv .0) _ _ e, (no-none 1 _ _ _ _ p (v .i) (omega arith), c .before .before .before .before .before .kept-from .ensures))
+    let o = access (c .before) in
+    let p = start o .pre in
+    (set-ready p (o .loop .inv .0) _ _ (state (c .before)), (no-none p (home (c .before) .within), o .before .kept-from .ensures))
+
+-- where the access's set is known of an access that was stored or not
+abbrev settled : tie.Joined1 Inv-loop μ-loop → tie.After-home-in Inv-loop μ-loop
+settled c = c .before .before .before .before
 
 -- only a miss is stored
-kept :
-    (c : tie.Joined1 Inv-loop μ-loop) →
-    Stored (c .before .before .before .before .before .before .before .loop .states) (c .before .before .before .before .home-in .result) (c .before .before .fifo .result .state) (c .if1 .states)
+kept : (c : tie.Joined1 Inv-loop μ-loop) → Stored (access (settled c) .loop .states) (settled c .home-in .result) (c .before .before .fifo .result .state) (c .if1 .states)
 kept c =
-    let v = c .before .before .before .before .before .before .before .loop in
-    let a = c .before .before .before .before .home-in in
     let t = c .before .before .fifo in
-    let low : a .result < length (v .states) = omega (arith, v .inv .1, a .ensures .1) in
+    let low : settled c .home-in .result < length (access (settled c) .loop .states) = omega (arith, access (settled c) .loop .inv .1, settled c .home-in .ensures .1) in
     ⊎-elim
     (λ w. stored _ _ _ _ low (w .2))
     (λ w. unchanged _ _ _ _ low (w .1) (fifo-same _ _ _ _ (t .ensures) (not-false _ (w .0 .left))))
     (c .if1 .came)
 
 loop-again : tie.Need-loop-again Inv-loop μ-loop
+unfolding step
 loop-again c =
-    let d = c .before in
-    let v = d .before .before .before .before .before .before .before .loop in
-    let a = d .before .before .before .before .home-in in
-    let s = d .before .before .before .before .before .before .before .before .before .before .before .before in
-    let n = d .before .before .before .before .before .before .before .before .before .sets-of in
-    let t = d .before .before .fifo in
-    let k = kept d in
-    let b = getD (s .args .blocks .now) (v .i) 0 in
-    let e : a .result ≡ b % s .args .sets = a .ensures .0 ∙ ap (λ (x : Sets). b % x .count) (n .ensures) in
-    let g = held-at (v .states) (a .result) (omega (arith, v .inv .1, a .ensures .1)) in (
-      going-more 1 _ _ _ _ (s .pre) _ _ _ (v .i) (v .inv .0) (omega (arith, d .before .before .before .before .before .before .loop-test .taken)) _ (a .result) refl e (t .result) (step-fifo _ _ _ _ g _ (t .ensures))
-          (held (d .if1 .states)) (k .here) (k .there) _ (c .mark-of .ensures .0) (c .mark-of .ensures .1),
-      k .long ∙ v .inv .1,
+    let d = settled (c .before) in
+    let o = access d in
+    let t = c .before .before .before .fifo in
+    let m = c .mark-of in
+    let k = kept (c .before) in
+    let b = getD (start o .args .blocks .now) (o .loop .i) 0 in (
+      going-more (start o .pre) (o .loop .inv .0) (home d) (t .result) (t .ensures ∙ ap (λ (s : SetState). step fifoPolicy (start o .args .k) s b) (sym (state d)))
+          (held (c .before .if1 .states)) (k .here) (k .there) _ (m .ensures .0) (m .ensures .1),
+      k .long ∙ o .loop .inv .1,
     )
 
 pub fifo-run-spec : {M : Type 1} → statement M
@@ -78,8 +91,8 @@ fifo-run-spec =
     Inv-loop
     μ-loop
     (λ c κs. search needs)
-    kept-from-requires
-    loop-holds
+    (λ c κs. few-ways (c .before .before .before .pre))
+    (λ c. (going-start (c .before .before .before .before .pre) _ (λ q. held-empty 64 q), refl))
     (λ c. search needs) (λ c. search needs)
     home-in-requires
     (λ c. search needs) (λ c. search needs)
@@ -88,4 +101,4 @@ fifo-run-spec =
     (λ c. search needs) (λ c. search needs)
     loop-again
     (λ c. c .before .loop .inv .0 .same)
-    (λ c. going-end 1 _ _ _ _ (c .before .before .before .before .before .before .pre) _ _ _ _ (c .before .loop .inv .0) (omega arith)))
+    (λ c. going-end (start (c .before) .pre) (c .before .loop .inv .0) (omega arith)))

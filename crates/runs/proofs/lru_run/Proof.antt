@@ -1,88 +1,93 @@
--- `runs::lru_run` meets its contract, by the law of the loop.
-use Prim.Native.Nat.{ℕ, _-_, _%_, _<_}
+-- `runs::lru_run`: the last set is held apart, an access keeps what holds of such a run, and the shift is always one that some weight gives.
+use Prim.Native.Nat.{ℕ, _-_}
 use native.Mathlib.Omega.{arith}
-use mathlib.Core.Path.{_≡_, refl, ap, _∙_}
+use mathlib.Core.Path.{_≡_, sym, ap, _∙_}
 use mathlib.Core.Logic.{⊎-elim}
-use lib.ListN.{length, getD}
+use lib.ListN.{length}
 use borrow.Author.Needs.{needs}
-use Rattle.paper.specs.declared.Sets.{Sets}
+use Rattle.paper.specs.declared.Shift.{Shift}
+use Rattle.paper.specs.Machines.{step}
+use Rattle.paper.specs.Policies.{lruPolicy}
 use Rattle.paper.specs.Shifts.{shiftAt}
-use Rattle.paper.proofs.Says.{says-true}
-use Rattle.paper.proofs.States.{says-offered}
-use Rattle.runs.specs.TraceRuns.{heldApart}
-use Rattle.runs.proofs.Going.{Going, going-start, going-same, going-more, going-end, set-ready, no-none}
-use Rattle.runs.proofs.Held.{Turned, stays, turns, apart-here, apart-other, apart-empty, sets-known, shift-known, step-lru}
+use Rattle.runs.proofs.Going.{Access, few-ways, sets-ready, access-is, going-end, no-none}
+use Rattle.runs.proofs.Apart.{Apart, Turned, apart-start, stays, turns, apart-ready, apart-more}
 use Rattle.runs.proofs.lru_run.Statement.{statement}
 use Rattle.runs.proofs.lru_run.Tie as tie
 
 abbrev Inv-loop : tie.InvT-loop
 Inv-loop k sets blocks marks₀ all shift₀ states₀ state₀ last₀ misses₀ i₀ marks shift states state last misses i =
-    Going 0 k sets blocks marks₀ marks (heldApart states last state) misses i × (length states ≡ 64) × (last < 64) × (shift ≡ shiftAt k (shift .weight))
+    Apart lruPolicy k sets blocks marks₀ marks states last state misses i × (shift ≡ shiftAt k (shift .weight))
 
 abbrev μ-loop : tie.MeasureT-loop
 μ-loop k sets blocks marks₀ all shift₀ states₀ state₀ last₀ misses₀ i₀ marks shift states state last misses i = length blocks - i
 
-shift-of-requires : tie.Need-shift-of-requires Inv-loop μ-loop
-shift-of-requires c κs = says-true (says-offered 0 _) (c .before .before .before .pre .offers) .most
+shift-known : (t : Shift) (k : ℕ) {w : ℕ} → t ≡ shiftAt k w → t ≡ shiftAt k (t .weight)
+shift-known t k e = e ∙ ap (shiftAt k) (sym (ap (λ (x : Shift). x .weight) e))
 
-loop-holds : tie.Need-loop-holds Inv-loop μ-loop
-loop-holds c =
-    let s = c .before .before .before .before .before in
-    (going-start 0 _ _ _ _ (s .pre) _ (λ q. apart-empty 64 0 q), refl, omega arith, shift-known _ _ (c .before .shift-of .ensures))
+-- before the loop: where the number of sets is known, and where the run begins
+abbrev counted : tie.At-loop Inv-loop μ-loop → tie.After-sets-of Inv-loop μ-loop
+counted o = o .before .before .before
+
+abbrev start : tie.At-loop Inv-loop μ-loop → tie.Start Inv-loop μ-loop
+start o = counted o .before .before .before
+
+-- where an access begins whose set is held apart
+abbrev access : tie.Joined1 Inv-loop μ-loop → tie.At-loop Inv-loop μ-loop
+access c = c .before .before .before .before
 
 home-in-requires : tie.Need-home-in-requires Inv-loop μ-loop
 home-in-requires c κs =
-    let r = c .before .before .before .before .before .before .before .before .pre in
-    sets-known _ _ (c .before .before .before .before .before .sets-of .ensures) (r .low) (r .high)
+    let o = c .before .before in
+    sets-ready (start o .pre) _ (counted o .sets-of .ensures)
 
--- the access's set is the one that is held apart
+-- the access's set
+home :
+    (c : tie.After-home-in Inv-loop μ-loop) →
+    let o = c .before .before .before in
+    Access (start o .args .sets) (start o .args .blocks .now) (o .loop .i) (c .home-in .result)
+home c =
+    let o = c .before .before .before in
+    access-is (start o .pre) _ (counted o .sets-of .ensures) (omega arith) (c .home-in .ensures .0) (c .home-in .ensures .1)
+
+-- is the one that is held apart
 turned :
     (c : tie.Joined1 Inv-loop μ-loop) →
-    let v = c .before .before .before .before .loop in
-    Turned (v .states) (v .last) (v .state) (c .before .home-in .result) (c .if1 .states) (c .if1 .last) (c .if1 .state)
+    let v = access c .loop in
+    let a = start (access c) .args in
+    Turned lruPolicy (a .k) (a .sets) (a .blocks .now) (a .marks .now) (v .marks) (c .if1 .states) (c .if1 .last) (c .if1 .state) (v .misses) (v .i)
 turned c =
-    let v = c .before .before .before .before .loop in
-    ⊎-elim
-    (λ w. turns _ _ _ _ _ _ _ (omega (arith, v .inv .1, v .inv .2)) (omega (arith, v .inv .1, c .before .home-in .ensures .1)) (w .0 .taken) (w .2) (w .3) (w .4))
-    (λ w. stays _ _ _ _ _ _ _ (w .0 .left) (w .1) (w .2) (w .3))
-    (c .if1 .came)
+    let p = start (access c) .pre in
+    let a = access c .loop .inv .0 in
+    let h = home (c .before) in
+    ⊎-elim (λ w. turns p a h (w .0 .taken) (w .2) (w .3) (w .4)) (λ w. stays p a h (w .0 .left) (w .1) (w .2) (w .3)) (c .if1 .came)
 
 lru-requires : tie.Need-lru-requires Inv-loop μ-loop
 lru-requires c κs =
-    let d = c .before in
-    let v = d .before .before .before .before .loop in
-    let p = d .before .before .before .before .before .before .before .before .before .before .pre in
-    let g = going-same 0 _ _ _ _ p _ _ _ _ (v .inv .0) (heldApart (d .if1 .states) (d .if1 .last) (d .if1 .state)) (turned d .same) in
-    (set-ready 0 _ _ _ _ p _ _ _ _ g (d .if1 .state) (d .if1 .last) (apart-here _ _ _), (no-none 0 _ _ _ _ p (v .i) (omega arith), c .shift .ensures))
+    let p = start (access (c .before)) .pre in
+    let u = turned (c .before) in
+    (apart-ready p u, (no-none p (u .access .within), c .shift .ensures))
+
+-- where the step is taken
+abbrev stepped : tie.After-state3 Inv-loop μ-loop → tie.Joined1 Inv-loop μ-loop
+stepped c = c .before .before .before .before
 
 add-misses : tie.Need-add-misses Inv-loop μ-loop
 add-misses c =
-    let v = c .before .before .before .before .before .before .before .before .loop in
-    let s = c .before .before .before .before .before .before .before .before .before .before .before .before .before in
-    search (needs, v .inv .0 .few, c .before .mark-of .ensures .1, s .shared-slice-known .given)
+    let v = access (stepped c) .loop in
+    let s = counted (access (stepped c)) .before .before in
+    search (needs, v .inv .0 .going .few, c .before .mark-of .ensures .1, s .shared-slice-known .given)
 
 add-i : tie.Need-add-i Inv-loop μ-loop
 add-i c =
-    let s = c .before .before .before .before .before .before .before .before .before .before .before .before .before in
+    let s = counted (access (stepped c)) .before .before in
     search (needs, s .shared-slice-known .given)
 
 loop-again : tie.Need-loop-again Inv-loop μ-loop
+unfolding step
 loop-again c =
-    let d = c .before .before .before .before in
-    let f = d .if1 in
-    let v = d .before .before .before .before .loop in
-    let a = d .before .home-in in
-    let s = d .before .before .before .before .before .before .before .before .before .before in
-    let n = d .before .before .before .before .before .before .before .sets-of in
-    let u = turned d in
-    let g = going-same 0 _ _ _ _ (s .pre) _ _ _ _ (v .inv .0) (heldApart (f .states) (f .last) (f .state)) (u .same) in
-    let t = c .before .before .lru in
-    let b = getD (s .args .blocks .now) (v .i) 0 in
-    let e : f .last ≡ b % s .args .sets = u .here ∙ a .ensures .0 ∙ ap (λ (x : Sets). b % x .count) (n .ensures) in (
-      going-more 0 _ _ _ _ (s .pre) _ _ _ (v .i) g (omega arith) _ (f .last) refl e (t .result) (step-lru _ _ (f .state) _ (apart-here _ _ _) _ (t .ensures))
-          (heldApart (f .states) (f .last) (t .result .state)) (apart-here _ _ _) (apart-other _ _ _ _) _ (c .before .mark-of .ensures .0) (c .before .mark-of .ensures .1),
-      u .long ∙ v .inv .1,
-      omega (arith, u .here, a .ensures .1),
+    let m = c .before .mark-of in
+    let t = c .before .before .lru in (
+      apart-more (start (access (stepped c)) .pre) (turned (stepped c)) (t .result) (t .ensures) _ (m .ensures .0) (m .ensures .1),
       shift-known _ _ (c .before .before .before .shift .ensures),
     )
 
@@ -93,9 +98,9 @@ lru-run-spec =
     Inv-loop
     μ-loop
     (λ c κs. search needs)
-    shift-of-requires
+    (λ c κs. few-ways (c .before .before .before .pre))
     (λ c. search needs)
-    loop-holds
+    (λ c. (apart-start (c .before .before .before .before .before .pre), shift-known _ _ (c .before .shift-of .ensures)))
     (λ c. search needs) (λ c. search needs)
     home-in-requires
     (λ c. search needs) (λ c. search needs) (λ c. search needs) (λ c. search needs) (λ c κs. search needs)
@@ -105,5 +110,5 @@ lru-run-spec =
     add-i
     (λ c. search needs)
     loop-again
-    (λ c. c .before .loop .inv .0 .same)
-    (λ c. going-end 0 _ _ _ _ (c .before .before .before .before .before .before .before .pre) _ _ _ _ (c .before .loop .inv .0) (omega arith)))
+    (λ c. c .before .loop .inv .0 .going .same)
+    (λ c. going-end (start (c .before) .pre) (c .before .loop .inv .0 .going) (omega arith)))

@@ -1,7 +1,8 @@
--- `runs::run` meets its contract.
+-- `runs::run`: each policy's run is called where the policy is its number, so what it gives is what is asked.
 use native.Mathlib.Omega.{arith}
 use mathlib.Core.Path.{_≡_, sym}
 use borrow.Author.Needs.{needs}
+use Rattle.paper.specs.Policies.{nmruPolicy}
 use Rattle.paper.proofs.Says.{says-true}
 use Rattle.paper.proofs.States.{says-offered}
 use Rattle.runs.proofs.Going.{runs-at, ran-at}
@@ -21,18 +22,16 @@ returns-2 : tie.Need-returns-2
 returns-2 c = ran-at (sym (c .before .before .before .before .if2 .taken)) (c .before .before .fifo-run .ensures)
 
 -- a policy that is neither LRU nor FIFO is NMRU
+neither : (c : tie.Else2) → let s = c .before .before .before .before in s .args .policy ≡ nmruPolicy
+neither c =
+    let s = c .before .before .before .before in
+    omega (arith, c .before .if1 .left, c .if2 .left, says-true (says-offered _ _) (s .pre .offers) .known)
+
 nmru-run-requires : tie.Need-nmru-run-requires
-nmru-run-requires c κs =
-    let s = c .before .before .before .before .before in
-    let e : s .args .policy ≡ 2 = omega (arith, c .before .before .if1 .left, c .before .if2 .left, says-true (says-offered _ _) (s .pre .offers) .known) in
-    runs-at e (s .pre)
+nmru-run-requires c κs = runs-at (neither (c .before)) (c .before .before .before .before .before .pre)
 
 returns-3 : tie.Need-returns-3
-returns-3 c =
-    let d = c .before .before .before in
-    let s = d .before .before .before .before .before in
-    let e : 2 ≡ s .args .policy = omega (arith, d .before .before .if1 .left, d .before .if2 .left, says-true (says-offered _ _) (s .pre .offers) .known) in
-    ran-at e (c .before .before .nmru-run .ensures)
+returns-3 c = ran-at (sym (neither (c .before .before .before .before))) (c .before .before .nmru-run .ensures)
 
 pub run-spec : {M : Type 1} → statement M
 run-spec =
