@@ -1,4 +1,4 @@
--- `trace::bad_access` meets its contract: no access before i has block none.
+-- `trace::bad_access`: the first access with block none stops the loop; before it none has it.
 use Prim.Native.Nat.{_-_}
 use native.Mathlib.Omega.{arith}
 use mathlib.Core.Path.{refl}

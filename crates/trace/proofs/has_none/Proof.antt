@@ -1,4 +1,4 @@
--- `trace::has_none` meets its contract.
+-- `trace::has_none`: the eight comparisons are the eight tests of the table, and the first stands at i + 0.
 use native.Mathlib.Nat.{add-zero}
 use borrow.Author.Needs.{needs}
 use Rattle.paper.specs.Lists.{table}
@@ -9,7 +9,7 @@ use Rattle.trace.proofs.has_none.Tie as tie
 
 returns : tie.Need-returns
 unfolding someOf table badAccess
-returns c = rw (add-zero (c .before .before .before .before .before .before .before .before .args .i))
+returns c = rw add-zero
 
 pub has-none-spec : {M : Type 1} → statement M
 has-none-spec =

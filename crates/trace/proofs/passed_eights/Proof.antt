@@ -1,4 +1,4 @@
--- `trace::passed_eights` meets its contract.
+-- `trace::passed_eights`: eight accesses of which none has block none make the trace clear up to the next eight.
 use Prim.Native.Nat.{_-_}
 use native.Mathlib.Omega.{arith}
 use mathlib.Core.Path.{sym, _∙_}

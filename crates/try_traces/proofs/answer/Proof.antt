@@ -1,4 +1,4 @@
--- `numbers::answer`: there is room for the line.
+-- `try_traces::answer`: there is room for the line, since a number has few digits.
 use native.Mathlib.Omega.{arith}
 use borrow.Author.Needs.{needs}
 use Rattle.print.proofs.Lengths.{short, line-length}
@@ -7,8 +7,9 @@ use Rattle.try_traces.proofs.answer.Tie as tie
 
 line-requires : tie.Need-line-requires
 line-requires c κs =
-    let m = c .before .before .a .given .0 .0 in
-    record { room = omega (arith, line-length (c .before .before .before .before .before .before .args .words .now) m, short m (search needs)) }
+    let told = c .before .before in
+    let m = told .a .given .0 .0 in
+    record { room = omega (arith, line-length (told .before .before .before .before .args .words .now) m, short m (search needs)) }
 
 pub answer-spec : {M : Type 1} → statement M
 answer-spec =
