@@ -1,4 +1,5 @@
 -- `trace::trace_run`: the refusals are asked for in the paper's order, and each answer fixes the result and the lent bytes.
+use native.Mathlib.Omega.{arith}
 use mathlib.Core.Path.{_≡_, sym, _∙_}
 use mathlib.Core.Bool.{true}
 use borrow.Author.Needs.{needs}
@@ -21,7 +22,7 @@ returns-2 c = refused _ _ _ _ _ _ _ _ (c .refuse2 .ensures) (run-20 _ _ _ _ _ (i
 returns-3 : tie.Need-returns-3
 returns-3 c =
     let a = c .before .before in
-    refused _ _ _ _ _ _ _ _ (c .refuse3 .ensures) (run-21 _ _ _ _ _ (in-range (a .before .before)) (a .before .if2 .left) _ (a .bad-access .ensures) (c .before .if3 .taken))
+    refused _ _ _ _ _ _ _ _ (c .refuse3 .ensures) (run-21 _ _ _ _ _ (in-range (a .before .before)) (a .before .if2 .left) _ (a .bad-access .ensures) (omega (arith, c .before .if3 .taken)))
 
 run-requires : tie.Need-run-requires
 run-requires c κs =
