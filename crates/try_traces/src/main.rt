@@ -31,9 +31,9 @@ fn run(out: &mut [u8], words: &[u8], policy: u8, ways: u8, blocks: &[u16])
 fn main() {
     let blocks: [u16; 12] = [1, 2, 3, 3, 2, 4, 2, 5, 2, 6, 6, 2];
     let mut out = [0u8; 100];
-    run(&mut out, b"LRU ", 0, 2, &blocks);
-    run(&mut out, b"FIFO ", 1, 2, &blocks);
-    run(&mut out, b"NMRU ", 2, 2, &blocks);
-    run(&mut out, b"no accesses ", 0, 2, &blocks[0..0]);
-    run(&mut out, b"NMRU with one way ", 2, 1, &blocks);
+    run(&mut out, b"LRU ", paper::LRU, 2, &blocks);
+    run(&mut out, b"FIFO ", paper::FIFO, 2, &blocks);
+    run(&mut out, b"NMRU ", paper::NMRU, 2, &blocks);
+    run(&mut out, b"no accesses ", paper::LRU, 2, &blocks[0..0]);
+    run(&mut out, b"NMRU with one way ", paper::NMRU, 1, &blocks);
 }
