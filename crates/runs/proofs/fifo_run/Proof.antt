@@ -28,43 +28,43 @@ counted o = o .before .before
 abbrev start : tie.At-loop Inv-loop μ-loop → tie.Start Inv-loop μ-loop
 start o = counted o .before .before .before
 
--- where an access begins whose set is known
-abbrev access : tie.After-home-in Inv-loop μ-loop → tie.At-loop Inv-loop μ-loop
-access c = c .before .before .before
+-- where the access began
+abbrev begun : tie.After-home-in Inv-loop μ-loop → tie.At-loop Inv-loop μ-loop
+begun c = c .before .before .before
 
 home-in-requires : tie.Need-home-in-requires Inv-loop μ-loop
 home-in-requires c κs =
     let o = c .before .before in
     sets-ready (start o .pre) _ (counted o .sets-of .ensures)
 
--- the access's set
+-- the set of the access
 home :
     (c : tie.After-home-in Inv-loop μ-loop) →
-    let o = access c in
+    let o = begun c in
     Access (start o .args .sets) (start o .args .blocks .now) (o .loop .i) (c .home-in .result)
 home c =
-    let o = access c in
+    let o = begun c in
     access-is (start o .pre) _ (counted o .sets-of .ensures) (omega arith) (c .home-in .ensures .0) (c .home-in .ensures .1)
 
--- and its state
-state : (c : tie.After-home-in Inv-loop μ-loop) → held (access c .loop .states) (c .home-in .result) ≡ getD (access c .loop .states) (c .home-in .result) noLines
-state c = held-at _ _ (omega (arith, access c .loop .inv .1, c .home-in .ensures .1))
+-- and its state, as the array has it
+state : (c : tie.After-home-in Inv-loop μ-loop) → held (begun c .loop .states) (c .home-in .result) ≡ getD (begun c .loop .states) (c .home-in .result) noLines
+state c = held-at _ _ (omega (arith, begun c .loop .inv .1, c .home-in .ensures .1))
 
 fifo-requires : tie.Need-fifo-requires Inv-loop μ-loop
 fifo-requires c κs =
-    let o = access (c .before) in
+    let o = begun (c .before) in
     let p = start o .pre in
     (set-ready p (o .loop .inv .0) _ _ (state (c .before)), (no-none p (home (c .before) .within), o .before .kept-from .ensures))
 
--- where the access's set is known of an access that was stored or not
+-- where the set became known
 abbrev settled : tie.Joined1 Inv-loop μ-loop → tie.After-home-in Inv-loop μ-loop
 settled c = c .before .before .before .before
 
 -- only a miss is stored
-kept : (c : tie.Joined1 Inv-loop μ-loop) → Stored (access (settled c) .loop .states) (settled c .home-in .result) (c .before .before .fifo .result .state) (c .if1 .states)
+kept : (c : tie.Joined1 Inv-loop μ-loop) → Stored (begun (settled c) .loop .states) (settled c .home-in .result) (c .before .before .fifo .result .state) (c .if1 .states)
 kept c =
     let t = c .before .before .fifo in
-    let low : settled c .home-in .result < length (access (settled c) .loop .states) = omega (arith, access (settled c) .loop .inv .1, settled c .home-in .ensures .1) in
+    let low : settled c .home-in .result < length (begun (settled c) .loop .states) = omega (arith, begun (settled c) .loop .inv .1, settled c .home-in .ensures .1) in
     ⊎-elim
     (λ w. stored _ _ _ _ low (w .2))
     (λ w. unchanged _ _ _ _ low (w .1) (fifo-same _ _ _ _ (t .ensures) (not-false _ (w .0 .left))))
@@ -74,7 +74,7 @@ loop-again : tie.Need-loop-again Inv-loop μ-loop
 unfolding step
 loop-again c =
     let d = settled (c .before) in
-    let o = access d in
+    let o = begun d in
     let t = c .before .before .before .fifo in
     let m = c .mark-of in
     let k = kept (c .before) in

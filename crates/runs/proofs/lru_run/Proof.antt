@@ -21,6 +21,7 @@ Inv-loop k sets blocks marks₀ all shift₀ states₀ state₀ last₀ misses�
 abbrev μ-loop : tie.MeasureT-loop
 μ-loop k sets blocks marks₀ all shift₀ states₀ state₀ last₀ misses₀ i₀ marks shift states state last misses i = length blocks - i
 
+-- a shift is the one that its own weight gives
 shift-known : (t : Shift) (k : ℕ) {w : ℕ} → t ≡ shiftAt k w → t ≡ shiftAt k (t .weight)
 shift-known t k e = e ∙ ap (shiftAt k) (sym (ap (λ (x : Shift). x .weight) e))
 
@@ -31,16 +32,16 @@ counted o = o .before .before .before
 abbrev start : tie.At-loop Inv-loop μ-loop → tie.Start Inv-loop μ-loop
 start o = counted o .before .before .before
 
--- where an access begins whose set is held apart
-abbrev access : tie.Joined1 Inv-loop μ-loop → tie.At-loop Inv-loop μ-loop
-access c = c .before .before .before .before
+-- where the access began
+abbrev begun : tie.Joined1 Inv-loop μ-loop → tie.At-loop Inv-loop μ-loop
+begun c = c .before .before .before .before
 
 home-in-requires : tie.Need-home-in-requires Inv-loop μ-loop
 home-in-requires c κs =
     let o = c .before .before in
     sets-ready (start o .pre) _ (counted o .sets-of .ensures)
 
--- the access's set
+-- the set of the access
 home :
     (c : tie.After-home-in Inv-loop μ-loop) →
     let o = c .before .before .before in
@@ -49,37 +50,37 @@ home c =
     let o = c .before .before .before in
     access-is (start o .pre) _ (counted o .sets-of .ensures) (omega arith) (c .home-in .ensures .0) (c .home-in .ensures .1)
 
--- is the one that is held apart
+-- the set that is held apart is that of the access
 turned :
     (c : tie.Joined1 Inv-loop μ-loop) →
-    let v = access c .loop in
-    let a = start (access c) .args in
+    let v = begun c .loop in
+    let a = start (begun c) .args in
     Turned lruPolicy (a .k) (a .sets) (a .blocks .now) (a .marks .now) (v .marks) (c .if1 .states) (c .if1 .last) (c .if1 .state) (v .misses) (v .i)
 turned c =
-    let p = start (access c) .pre in
-    let a = access c .loop .inv .0 in
+    let p = start (begun c) .pre in
+    let a = begun c .loop .inv .0 in
     let h = home (c .before) in
     ⊎-elim (λ w. turns p a h (w .0 .taken) (w .2) (w .3) (w .4)) (λ w. stays p a h (w .0 .left) (w .1) (w .2) (w .3)) (c .if1 .came)
 
 lru-requires : tie.Need-lru-requires Inv-loop μ-loop
 lru-requires c κs =
-    let p = start (access (c .before)) .pre in
+    let p = start (begun (c .before)) .pre in
     let u = turned (c .before) in
     (apart-ready p u, (no-none p (u .access .within), c .shift .ensures))
 
--- where the step is taken
+-- where the step began
 abbrev stepped : tie.After-state3 Inv-loop μ-loop → tie.Joined1 Inv-loop μ-loop
 stepped c = c .before .before .before .before
 
 add-misses : tie.Need-add-misses Inv-loop μ-loop
 add-misses c =
-    let v = access (stepped c) .loop in
-    let s = counted (access (stepped c)) .before .before in
+    let v = begun (stepped c) .loop in
+    let s = counted (begun (stepped c)) .before .before in
     search (needs, v .inv .0 .going .few, c .before .mark-of .ensures .1, s .shared-slice-known .given)
 
 add-i : tie.Need-add-i Inv-loop μ-loop
 add-i c =
-    let s = counted (access (stepped c)) .before .before in
+    let s = counted (begun (stepped c)) .before .before in
     search (needs, s .shared-slice-known .given)
 
 loop-again : tie.Need-loop-again Inv-loop μ-loop
@@ -87,7 +88,7 @@ unfolding step
 loop-again c =
     let m = c .before .mark-of in
     let t = c .before .before .lru in (
-      apart-more (start (access (stepped c)) .pre) (turned (stepped c)) (t .result) (t .ensures) _ (m .ensures .0) (m .ensures .1),
+      apart-more (start (begun (stepped c)) .pre) (turned (stepped c)) (t .result) (t .ensures) _ (m .ensures .0) (m .ensures .1),
       shift-known _ _ (c .before .before .before .shift .ensures),
     )
 

@@ -26,16 +26,16 @@ counted o = o .before .before .before
 abbrev start : tie.At-loop Inv-loop μ-loop → tie.Start Inv-loop μ-loop
 start o = counted o .before .before .before
 
--- where an access begins whose set is held apart
-abbrev access : tie.Joined1 Inv-loop μ-loop → tie.At-loop Inv-loop μ-loop
-access c = c .before .before .before .before
+-- where the access began
+abbrev begun : tie.Joined1 Inv-loop μ-loop → tie.At-loop Inv-loop μ-loop
+begun c = c .before .before .before .before
 
 home-in-requires : tie.Need-home-in-requires Inv-loop μ-loop
 home-in-requires c κs =
     let o = c .before .before in
     sets-ready (start o .pre) _ (counted o .sets-of .ensures)
 
--- the access's set
+-- the set of the access
 home :
     (c : tie.After-home-in Inv-loop μ-loop) →
     let o = c .before .before .before in
@@ -44,46 +44,46 @@ home c =
     let o = c .before .before .before in
     access-is (start o .pre) _ (counted o .sets-of .ensures) (omega arith) (c .home-in .ensures .0) (c .home-in .ensures .1)
 
--- is the one that is held apart
+-- the set that is held apart is that of the access
 turned :
     (c : tie.Joined1 Inv-loop μ-loop) →
-    let v = access c .loop in
-    let a = start (access c) .args in
+    let v = begun c .loop in
+    let a = start (begun c) .args in
     Turned nmruPolicy (a .k) (a .sets) (a .blocks .now) (a .marks .now) (v .marks) (c .if1 .states) (c .if1 .last) (c .if1 .state) (v .misses) (v .i)
 turned c =
-    let p = start (access c) .pre in
-    let a = access c .loop .inv .0 in
+    let p = start (begun c) .pre in
+    let a = begun c .loop .inv .0 in
     let h = home (c .before) in
     ⊎-elim (λ w. turns p a h (w .0 .taken) (w .2) (w .3) (w .4)) (λ w. stays p a h (w .0 .left) (w .1) (w .2) (w .3)) (c .if1 .came)
 
 line-requires : tie.Need-line-requires Inv-loop μ-loop
 line-requires c κs =
-    let p = start (access c) .pre in
+    let p = start (begun c) .pre in
     let u = turned c in
     (apart-ready p u, (no-none p (u .access .within), apart-bits p u refl))
 
--- where the line is looked for
+-- where the search for the line began
 abbrev looked : tie.Joined2 Inv-loop μ-loop → tie.Joined1 Inv-loop μ-loop
 looked c = c .before .before .before
 
 nmru-requires : tie.Need-nmru-requires Inv-loop μ-loop
 nmru-requires c κs =
     let d = looked (c .before) in
-    let p = start (access d) .pre in
+    let p = start (begun d) .pre in
     let u = turned d in
-    (apart-ready p u, (apart-bits p u refl, (c .before .before .before .line .ensures, access d .before .before .next-bits .ensures)))
+    (apart-ready p u, (apart-bits p u refl, (c .before .before .before .line .ensures, begun d .before .before .next-bits .ensures)))
 
 -- as many guesses as before
-as-many : (c : tie.Joined2 Inv-loop μ-loop) → length (c .if2 .guesses) ≡ length (access (looked c) .loop .guesses)
+as-many : (c : tie.Joined2 Inv-loop μ-loop) → length (c .if2 .guesses) ≡ length (begun (looked c) .loop .guesses)
 as-many c =
-    let o = access (looked c) in
+    let o = begun (looked c) in
     let b = getD (start o .args .blocks .now) (o .loop .i) 0 in
     ⊎-elim
     (λ w. ap length (w .2) ∙ length-set (o .loop .guesses) (b % 1024) ((c .before .before .line .result .bit % 256 + 127) % 128))
     (λ w. ap length (w .1))
     (c .if2 .came)
 
--- where the guess is as it will stay
+-- where the guess is as the next access finds it
 abbrev guessed : tie.After-state3 Inv-loop μ-loop → tie.Joined2 Inv-loop μ-loop
 guessed c = c .before .before .before .before
 
@@ -93,8 +93,8 @@ loop-again c =
     let d = looked (guessed c) in
     let m = c .before .mark-of in
     let t = c .before .before .nmru in (
-      apart-more (start (access d) .pre) (turned d) (t .result) (t .ensures) _ (m .ensures .0) (m .ensures .1),
-      as-many (guessed c) ∙ access d .loop .inv .1,
+      apart-more (start (begun d) .pre) (turned d) (t .result) (t .ensures) _ (m .ensures .0) (m .ensures .1),
+      as-many (guessed c) ∙ begun d .loop .inv .1,
     )
 
 pub nmru-run-spec : {M : Type 1} → statement M
