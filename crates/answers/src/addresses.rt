@@ -1,10 +1,12 @@
 // Operation 2, the block of an address.
 use frames::Head;
+use frames::places;
 use paper::Address;
 use paper::BlockAnswer;
 ghost use mathlib.Core.Path.{_≡_};
 ghost use lib.ListN.{length};
 ghost use Rattle.frames.specs.Frames as Frames;
+ghost use Rattle.frames.specs.Places as Places;
 
 fn head_of(answer: BlockAnswer) -> Head
     ensures { λ r. ⌜ r ≡ Frames.blockHead answer ⌝ }
@@ -16,17 +18,23 @@ fn head_of(answer: BlockAnswer) -> Head
 }
 
 // The arguments: address, line size.
-fn asked(request: &[u8; 21]) -> BlockAnswer
+fn asked(request: &[u8; places::ARGUMENTS_ROOM]) -> BlockAnswer
     ensures { λ r. ⌜ r ≡ Frames.blockAsked (now (request .entry)) ⌝ }
 {
     let address = Address(layout::u32_at(request, 0));
-    bolgverk::block_of(address, layout::u32_at(request, 4))
+    bolgverk::block_of(address, layout::u32_at(request, places::BLOCK_LINE_SIZE))
 }
 
-pub fn answer(request: &[u8; 21], out: &mut [u8]) -> usize
-    requires { ⌜ length (now out) ≡ 28 ⌝ }
+pub fn answer(request: &[u8; places::ARGUMENTS_ROOM], out: &mut [u8]) -> usize
+    requires { ⌜ length (now out) ≡ Places.lentAt ⌝ }
     ensures { λ r. ⌜ Frames.Answered (Frames.blockFrame (Frames.blockAsked (now (request .entry)))) r (now (out .exit)) ⌝ }
 {
-    frames::front(out, 16, 2, 2, head_of(asked(request)));
-    16
+    frames::front(
+        out,
+        places::BLOCK_AT,
+        2,
+        places::BLOCK_WIDTH,
+        head_of(asked(request)),
+    );
+    places::BLOCK_AT
 }

@@ -1,5 +1,6 @@
 // Operation 5, the check.
 use frames::Head;
+use frames::places;
 use paper::Verdict;
 ghost use mathlib.Core.Path.{_≡_};
 ghost use Prim.Native.Nat.{_+_, _*_, _≤_};
@@ -7,6 +8,7 @@ ghost use lib.ListN.{length, drop};
 ghost use Rattle.paper.specs.Files.{u32At};
 ghost use Rattle.paper.specs.Verdicts.{lentAfter};
 ghost use Rattle.frames.specs.Frames as Frames;
+ghost use Rattle.frames.specs.Places as Places;
 
 fn head_of(verdict: Verdict) -> Head
     ensures { λ r. ⌜ r ≡ Frames.checkHead verdict ⌝ }
@@ -18,8 +20,8 @@ fn head_of(verdict: Verdict) -> Head
 }
 
 // The arguments: the number of bytes, the number of numbers. The lent memory: the file, then the numbers.
-fn checked(request: &[u8; 21], lent: &[u8], numbers: &mut [u64]) -> Verdict
-    requires { ⌜ length (now numbers) ≡ u32At (now request) 4 ⌝ }
+fn checked(request: &[u8; places::ARGUMENTS_ROOM], lent: &[u8], numbers: &mut [u64]) -> Verdict
+    requires { ⌜ length (now numbers) ≡ u32At (now request) Places.checkNumbers ⌝ }
     requires { ⌜ u32At (now request) 0 + 8 * length (now numbers) ≤ length (now lent) ⌝ }
     ensures { λ r. ⌜ r ≡ Frames.checkAsked (now (request .entry)) (now (lent .entry)) ⌝ }
     ensures { λ _. ⌜ now (numbers .exit) ≡ Frames.numbersAfter (now (request .entry)) (now (lent .entry)) ⌝ }
@@ -29,24 +31,28 @@ fn checked(request: &[u8; 21], lent: &[u8], numbers: &mut [u64]) -> Verdict
     bolgverk::check(&lent[0..n], numbers)
 }
 
-// The file is not wanted any more when the head, 10 bytes, is put just before the numbers, over its end.
-fn framed(request: &[u8; 21], bytes: &mut [u8], numbers: &mut [u64]) -> usize
-    requires { ⌜ length (now numbers) ≡ u32At (now request) 4 ⌝ }
-    requires { ⌜ length (now bytes) ≡ 28 + (u32At (now request) 0 + 8 * length (now numbers)) ⌝ }
-    ensures { λ r. ⌜ Frames.Answered (Frames.checkFrame (Frames.checkAsked (now (request .entry)) (drop 28 (now (bytes .entry)))) (Frames.numbersAfter (now (request .entry)) (drop 28 (now (bytes .entry))))) r (now (bytes .exit)) ⌝ }
+// The file is not wanted any more when the head is put just before the numbers, over its end.
+fn framed(request: &[u8; places::ARGUMENTS_ROOM], bytes: &mut [u8], numbers: &mut [u64]) -> usize
+    requires { ⌜ length (now numbers) ≡ u32At (now request) Places.checkNumbers ⌝ }
+    requires { ⌜ length (now bytes) ≡ Places.lentAt + (u32At (now request) 0 + 8 * length (now numbers)) ⌝ }
+    ensures { λ r. ⌜ Frames.Answered (Frames.checkFrame (Frames.checkAsked (now (request .entry)) (drop Places.lentAt (now (bytes .entry)))) (Frames.numbersAfter (now (request .entry)) (drop Places.lentAt (now (bytes .entry))))) r (now (bytes .exit)) ⌝ }
 {
-    let at = 18 + layout::u32_at(request, 0) as usize;
-    let head = head_of(checked(request, &bytes[28..], numbers));
+    let at = places::CHECK_AT + layout::u32_at(request, 0) as usize;
+    let head = head_of(checked(request, &bytes[places::LENT_AT..], numbers));
     let after_head = frames::front(bytes, at, 5, 0, head);
     frames::numbers::put_numbers(bytes, after_head, numbers);
     at
 }
 
-pub fn answer(request: &[u8; 21], bytes: &mut [u8], numbers: &mut [u64]) -> usize
-    requires { ⌜ u32At (now request) 4 ≤ length (now numbers) ⌝ }
-    requires { ⌜ length (now bytes) ≡ 28 + (u32At (now request) 0 + 8 * u32At (now request) 4) ⌝ }
-    ensures { λ r. ⌜ Frames.Answered (Frames.checkFrame (Frames.checkAsked (now (request .entry)) (drop 28 (now (bytes .entry)))) (Frames.numbersAfter (now (request .entry)) (drop 28 (now (bytes .entry))))) r (now (bytes .exit)) ⌝ }
+pub fn answer(
+    request: &[u8; places::ARGUMENTS_ROOM],
+    bytes: &mut [u8],
+    numbers: &mut [u64],
+) -> usize
+    requires { ⌜ u32At (now request) Places.checkNumbers ≤ length (now numbers) ⌝ }
+    requires { ⌜ length (now bytes) ≡ Places.lentAt + (u32At (now request) 0 + 8 * u32At (now request) Places.checkNumbers) ⌝ }
+    ensures { λ r. ⌜ Frames.Answered (Frames.checkFrame (Frames.checkAsked (now (request .entry)) (drop Places.lentAt (now (bytes .entry)))) (Frames.numbersAfter (now (request .entry)) (drop Places.lentAt (now (bytes .entry))))) r (now (bytes .exit)) ⌝ }
 {
-    let m = layout::u32_at(request, 4) as usize;
+    let m = layout::u32_at(request, places::CHECK_NUMBERS) as usize;
     framed(request, bytes, &mut numbers[0..m])
 }

@@ -5,9 +5,11 @@ pub mod sets;
 pub mod steps;
 pub mod traces;
 
+use frames::places;
 ghost use mathlib.Core.Path.{_≡_};
 ghost use Prim.Native.Nat.{_≤_};
 ghost use Rattle.frames.specs.Frames as Frames;
+ghost use Rattle.frames.specs.Places as Places;
 
 // The fixed room of docs/PIPE.md.
 pub const ACCESSES: usize = 1048576;
@@ -16,20 +18,20 @@ pub const FILE: usize = 4300000;
 
 pub const NUMBERS: usize = 4096;
 
-// The bytes have room for what an answer has before the lent memory, then for the lent memory. A check's takes most.
-pub const ROOM: usize = 28 + FILE + 8 * NUMBERS;
+// The bytes have room for what stands before the lent memory, then for the lent memory. A check's takes most.
+pub const ROOM: usize = places::LENT_AT + FILE + 8 * NUMBERS;
 
 // How many bytes the arguments of an operation take, the lent memory left out. A step's take most.
 pub fn argument_bytes(operation: u8) -> usize
     ensures { λ r. ⌜ r ≡ Frames.argumentBytes operation ⌝ }
-    ensures { λ r. ⌜ r ≤ 21 ⌝ }
+    ensures { λ r. ⌜ r ≤ Places.argumentsRoom ⌝ }
 {
     match operation {
-        1 => 21,
-        2 => 8,
-        3 => 3,
-        4 => 11,
-        5 => 8,
+        1 => places::STEP_SIZE,
+        2 => places::BLOCK_SIZE,
+        3 => places::SET_SIZE,
+        4 => places::TRACE_SIZE,
+        5 => places::CHECK_SIZE,
         _ => 0,
     }
 }

@@ -1,5 +1,6 @@
 // Operation 1, the single step.
 use frames::Head;
+use frames::places;
 use paper::Block;
 use paper::Outcome;
 use paper::SetState;
@@ -7,6 +8,7 @@ use paper::StepAnswer;
 ghost use mathlib.Core.Path.{_≡_};
 ghost use lib.ListN.{length};
 ghost use Rattle.frames.specs.Frames as Frames;
+ghost use Rattle.frames.specs.Places as Places;
 
 fn head_of(outcome: Outcome) -> Head
     ensures { λ r. ⌜ r ≡ Frames.stepHead outcome ⌝ }
@@ -19,33 +21,33 @@ fn head_of(outcome: Outcome) -> Head
 }
 
 // The arguments: policy, ways, eight lines, bits, block.
-fn stepped(request: &[u8; 21]) -> StepAnswer
+fn stepped(request: &[u8; places::ARGUMENTS_ROOM]) -> StepAnswer
     ensures { λ r. ⌜ r ≡ Frames.stepAsked (now (request .entry)) ⌝ }
 {
     let mut lines = [0u16; 8];
     let bytes = &request[..];
-    frames::numbers::read_blocks(&bytes[2..], &mut lines);
+    frames::numbers::read_blocks(&bytes[places::STEP_LINES..], &mut lines);
     let state = SetState {
         lines: lines,
-        bits: request[18],
+        bits: request[places::STEP_BITS],
     };
-    let block = Block(layout::u16_at(request, 19));
-    bolgverk::step(request[0], request[1], state, block)
+    let block = Block(layout::u16_at(request, places::STEP_BLOCK));
+    bolgverk::step(request[0], request[places::STEP_WAYS], state, block)
 }
 
 // The answer: the head with hit, miss or refusal, eight lines, bits.
 fn put_answer(out: &mut [u8], outcome: Outcome, lines: [u16; 8], bits: u8) -> usize
-    requires { ⌜ length (now out) ≡ 28 ⌝ }
+    requires { ⌜ length (now out) ≡ Places.lentAt ⌝ }
     ensures { λ r. ⌜ Frames.Answered (Frames.stepFrame (Frames.stepOf outcome lines bits)) r (now (out .exit)) ⌝ }
 {
-    let after_head = frames::front(out, 0, 1, 1, head_of(outcome));
+    let after_head = frames::front(out, 0, 1, places::OUTCOME_WIDTH, head_of(outcome));
     let after_lines = frames::numbers::put_blocks(out, after_head, &lines);
     frames::numbers::put(out, after_lines, 1, bits as u64);
     0
 }
 
-pub fn answer(request: &[u8; 21], out: &mut [u8]) -> usize
-    requires { ⌜ length (now out) ≡ 28 ⌝ }
+pub fn answer(request: &[u8; places::ARGUMENTS_ROOM], out: &mut [u8]) -> usize
+    requires { ⌜ length (now out) ≡ Places.lentAt ⌝ }
     ensures { λ r. ⌜ Frames.Answered (Frames.stepFrame (Frames.stepAsked (now (request .entry)))) r (now (out .exit)) ⌝ }
 {
     let a = stepped(request);

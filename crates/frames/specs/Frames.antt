@@ -19,11 +19,13 @@ use Rattle.paper.specs.declared.Verdict.{Verdict}
 use Rattle.paper.specs.declared.Verdict.the-variants as Verdicts
 use Rattle.paper.specs.Answers.{refuse}
 use Rattle.paper.specs.Files.{u8At, u16At, u32At}
+use Rattle.paper.specs.Records.{sizeOf}
 use Rattle.paper.specs.Operations.{stepAnswer, blockAnswer, setAnswer}
 use Rattle.paper.specs.Traces.{Run, traceRun}
 use Rattle.paper.specs.Verdicts.{verdict, lentAfter}
 use Rattle.frames.specs.declared.Head.{Head}
 use Rattle.frames.specs.Little.{little, littles, u16s, u64s}
+use Rattle.frames.specs.Places as Places
 
 -- "the operation's byte, the refusal's number u8 (0: not refused), the refusal's place u64 (0 where not refused), and then": every answer's head
 unfoldable pub head : ℕ → Refusal → List ℕ
@@ -69,17 +71,17 @@ stepOf outcome lines bits = record { state = record { lines = lines; bits = bits
 
 -- "…; eight lines u16 each; bits u8"
 unfoldable pub stepFrame : StepAnswer → List ℕ
-stepFrame a = front 1 1 (stepHead (a .outcome)) ++ (littles 2 (a .state .lines) ++ little 1 (a .state .bits))
+stepFrame a = front 1 Places.outcomeWidth (stepHead (a .outcome)) ++ (littles 2 (a .state .lines) ++ little 1 (a .state .bits))
 
 abbrev pub blockFrame : BlockAnswer → List ℕ
-blockFrame a = front 2 2 (blockHead a)
+blockFrame a = front 2 Places.blockWidth (blockHead a)
 
 abbrev pub setFrame : SetAnswer → List ℕ
-setFrame a = front 3 1 (setHead a)
+setFrame a = front 3 Places.setWidth (setHead a)
 
 -- "…; the m bytes of lent memory afterwards"
 abbrev pub traceFrame : Run → List ℕ
-traceFrame run = front 4 8 (traceHead (run .answer)) ++ run .marks
+traceFrame run = front 4 Places.missesWidth (traceHead (run .answer)) ++ run .marks
 
 -- "the m numbers of lent memory afterwards, u64 each": a check's head has no value
 abbrev pub checkFrame : Verdict → List ℕ → List ℕ
@@ -89,27 +91,31 @@ checkFrame v numbers = front 5 0 (checkHead v) ++ littles 8 numbers
 module _ (r : List ℕ) where
   -- "policy u8, ways u8, eight lines u16 each, bits u8, block u16"
   unfoldable pub stepAsked : StepAnswer
-  stepAsked = stepAnswer (u8At r 0) (u8At r 1) (record { lines = u16s (drop 2 r) 8; bits = u8At r 18 }) (record { 0 = u16At r 19 })
+  stepAsked =
+      stepAnswer (u8At r 0) (u8At r Places.stepWays) (record { lines = u16s (drop Places.stepLines r) 8; bits = u8At r Places.stepBits })
+      (record { 0 = u16At r Places.stepBlock })
 
   -- "address u32, line size u32"
   unfoldable pub blockAsked : BlockAnswer
-  blockAsked = blockAnswer (record { 0 = u32At r 0 }) (u32At r 4)
+  blockAsked = blockAnswer (record { 0 = u32At r 0 }) (u32At r Places.blockLineSize)
 
   -- "block u16, sets u8"
   unfoldable pub setAsked : SetAnswer
-  setAsked = setAnswer (record { 0 = u16At r 0 }) (u8At r 2)
+  setAsked = setAnswer (record { 0 = u16At r 0 }) (u8At r Places.setSets)
 
   module _ (lent : List ℕ) where
     -- "policy u8, ways u8, sets u8, accesses n u32, marks m u32, then n blocks u16 each, then m bytes"
     unfoldable pub traceAsked : Run
-    traceAsked = traceRun (u8At r 0) (u8At r 1) (u8At r 2) (u16s lent (u32At r 3)) (drop (2 * u32At r 3) lent)
+    traceAsked =
+        let accesses = u32At r Places.traceAccesses in
+        traceRun (u8At r 0) (u8At r Places.traceWays) (u8At r Places.traceSets) (u16s lent accesses) (drop (2 * accesses) lent)
 
     -- "file bytes n u32, numbers m u32, then n bytes, then m numbers u64 each"
     abbrev pub file : List ℕ
     file = take (u32At r 0) lent
 
     abbrev pub numbers : List ℕ
-    numbers = u64s (drop (u32At r 0) lent) (u32At r 4)
+    numbers = u64s (drop (u32At r 0) lent) (u32At r Places.checkNumbers)
 
     unfoldable pub checkAsked : Verdict
     checkAsked = verdict file (length numbers)
@@ -120,8 +126,10 @@ module _ (r : List ℕ) where
 -- How many bytes the arguments of an operation take, the lent memory left out.
 unfoldable pub argumentBytes : ℕ → ℕ
 argumentBytes operation =
-    cond (eqb operation 1) 21
-    (cond (eqb operation 2) 8 (cond (eqb operation 3) 3 (cond (eqb operation 4) 11 (cond (eqb operation 5) 8 0))))
+    cond (eqb operation 1) (sizeOf Places.stepFields)
+    (cond (eqb operation 2) (sizeOf Places.blockFields)
+    (cond (eqb operation 3) (sizeOf Places.setFields)
+    (cond (eqb operation 4) (sizeOf Places.traceFields) (cond (eqb operation 5) (sizeOf Places.checkFields) 0))))
 
 -- "the byte 0, then one byte that says why, then the number of frames answered before it, u64"
 unfoldable pub lastFrame : ℕ → ℕ → List ℕ

@@ -1,5 +1,6 @@
 -- docs/PIPE.md: "`pipe` has fixed room."
 use Prim.Native.Nat.{ℕ, _+_, _*_}
+use Rattle.frames.specs.Places.{lentAt}
 
 -- "a trace has at most 1,048,576 accesses and at most 1,048,576 marks"
 abbrev pub accesses : ℕ
@@ -9,6 +10,6 @@ accesses = 1048576
 abbrev pub numbers : ℕ
 numbers = 4096
 
--- 28: what an answer has at most before the lent memory. "a file has at most 4,300,000 bytes": a check's lent memory takes most.
+-- "a file has at most 4,300,000 bytes": a check's lent memory takes most.
 abbrev pub bytes : ℕ
-bytes = 28 + 4300000 + 8 * numbers
+bytes = lentAt + 4300000 + 8 * numbers

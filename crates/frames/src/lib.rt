@@ -1,5 +1,6 @@
 // The frames of `pipe`, as bytes: docs/PIPE.md in words, specs/Frames.antt as definitions.
 pub mod numbers;
+pub mod places;
 
 use paper::Refusal;
 ghost use mathlib.Core.Path.{_≡_};
@@ -7,6 +8,7 @@ ghost use Prim.Native.Nat.{_+_, _≤_};
 ghost use lib.ListN.{length};
 ghost use Rattle.print.specs.Put.{Put};
 ghost use Rattle.frames.specs.Frames as Frames;
+ghost use Rattle.frames.specs.Places.{headSize, lastSize};
 
 // What an operation says first: a refusal, number and place 0 where it does not refuse, and a value.
 pub struct Head {
@@ -34,9 +36,9 @@ pub fn refused(refusal: Refusal, value: u64) -> Head
 
 // Puts the head of an answer at a place: the operation, the refusal, and the value in as many bytes as it takes.
 pub fn front(out: &mut [u8], at: usize, operation: u8, width: usize, h: Head) -> usize
-    requires { ⌜ at + 10 + width ≤ length (now out) ⌝ }
+    requires { ⌜ at + headSize + width ≤ length (now out) ⌝ }
     ensures { λ r. ⌜ Put (now (out .entry)) at (Frames.front operation width h) r (now (out .exit)) ⌝ }
-    ensures { λ r. ⌜ r ≡ at + 10 + width ⌝ }
+    ensures { λ r. ⌜ r ≡ at + headSize + width ⌝ }
 {
     let after_operation = numbers::put(out, at, 1, operation as u64);
     let refusal = h.refusal;
@@ -47,7 +49,7 @@ pub fn front(out: &mut [u8], at: usize, operation: u8, width: usize, h: Head) ->
 
 // The last answer of all: the byte 0, why, and how many requests were answered before.
 pub fn last(out: &mut [u8], why: u8, answered: u64)
-    requires { ⌜ length (now out) ≡ 10 ⌝ }
+    requires { ⌜ length (now out) ≡ lastSize ⌝ }
     ensures { λ _. ⌜ now (out .exit) ≡ Frames.lastFrame why answered ⌝ }
 {
     let after_zero = numbers::put(out, 0, 1, 0);

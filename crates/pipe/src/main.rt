@@ -4,6 +4,9 @@ mod requests;
 use answers::ACCESSES;
 use answers::NUMBERS;
 use answers::ROOM;
+use frames::places::ARGUMENTS_ROOM;
+use frames::places::LAST_SIZE;
+use frames::places::LENT_AT;
 use libc::STDOUT_FILENO;
 use requests::Frame;
 ghost use Prim.Native.Nat.{_≤_};
@@ -13,7 +16,7 @@ ghost use Rattle.frames.specs.Room as Room;
 // The operation that the first byte names.
 fn asked(
     operation: u8,
-    request: &[u8; 21],
+    request: &[u8; ARGUMENTS_ROOM],
     bytes: &mut [u8],
     blocks: &mut [u16],
     numbers: &mut [u64],
@@ -23,7 +26,7 @@ fn asked(
     requires { ⌜ Room.numbers ≤ length (now numbers) ⌝ }
 {
     match operation {
-        1 | 2 | 3 => requests::short(operation, request, &mut bytes[0..28]),
+        1 | 2 | 3 => requests::short(operation, request, &mut bytes[0..LENT_AT]),
         4 => requests::trace(request, bytes, blocks),
         5 => requests::check(request, bytes, numbers),
         _ => Frame::Stopped(1),
@@ -40,7 +43,7 @@ fn next(bytes: &mut [u8], blocks: &mut [u16], numbers: &mut [u64]) -> Frame
     if !requests::read(&mut operation) {
         return Frame::Over;
     }
-    let mut request = [0u8; 21];
+    let mut request = [0u8; ARGUMENTS_ROOM];
     let n = answers::argument_bytes(operation[0]);
     if !requests::read(&mut request[0..n]) {
         return Frame::Stopped(2);
@@ -50,7 +53,7 @@ fn next(bytes: &mut [u8], blocks: &mut [u16], numbers: &mut [u64]) -> Frame
 
 // The last answer of all.
 fn stop(why: u8, answered: u64) {
-    let mut out = [0u8; 10];
+    let mut out = [0u8; LAST_SIZE];
     frames::last(&mut out, why, answered);
     io::write_all(STDOUT_FILENO, &out);
 }

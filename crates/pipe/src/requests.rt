@@ -2,12 +2,14 @@
 use answers::ACCESSES;
 use answers::FILE;
 use answers::NUMBERS;
+use frames::places;
 use libc::STDIN_FILENO;
 use libc::STDOUT_FILENO;
 ghost use mathlib.Core.Path.{_≡_};
 ghost use Prim.Native.Nat.{_+_, _*_, _≤_};
 ghost use lib.ListN.{length};
 ghost use Rattle.paper.specs.Files.{u32At};
+ghost use Rattle.frames.specs.Places as Places;
 ghost use Rattle.frames.specs.Room as Room;
 
 // How a request ends: it is answered; there is none, or nobody takes the answer; or it cannot be answered, and why.
@@ -31,9 +33,9 @@ fn written(answer: &[u8]) -> Frame {
 }
 
 // A step, the block of an address or the set of a block: no lent memory.
-fn placed(operation: u8, request: &[u8; 21], bytes: &mut [u8]) -> usize
-    requires { ⌜ length (now bytes) ≡ 28 ⌝ }
-    ensures { λ r. ⌜ r ≤ 28 ⌝ }
+fn placed(operation: u8, request: &[u8; places::ARGUMENTS_ROOM], bytes: &mut [u8]) -> usize
+    requires { ⌜ length (now bytes) ≡ Places.lentAt ⌝ }
+    ensures { λ r. ⌜ r ≤ Places.lentAt ⌝ }
 {
     match operation {
         1 => answers::steps::answer(request, bytes),
@@ -42,18 +44,18 @@ fn placed(operation: u8, request: &[u8; 21], bytes: &mut [u8]) -> usize
     }
 }
 
-pub fn short(operation: u8, request: &[u8; 21], bytes: &mut [u8]) -> Frame
-    requires { ⌜ length (now bytes) ≡ 28 ⌝ }
+pub fn short(operation: u8, request: &[u8; places::ARGUMENTS_ROOM], bytes: &mut [u8]) -> Frame
+    requires { ⌜ length (now bytes) ≡ Places.lentAt ⌝ }
 {
     let at = placed(operation, request, bytes);
     written(&bytes[at..])
 }
 
-fn traced(request: &[u8; 21], bytes: &mut [u8], blocks: &mut [u16]) -> Frame
-    requires { ⌜ u32At (now request) 3 ≤ length (now blocks) ⌝ }
-    requires { ⌜ 28 + 2 * u32At (now request) 3 ≤ length (now bytes) ⌝ }
+fn traced(request: &[u8; places::ARGUMENTS_ROOM], bytes: &mut [u8], blocks: &mut [u16]) -> Frame
+    requires { ⌜ u32At (now request) Places.traceAccesses ≤ length (now blocks) ⌝ }
+    requires { ⌜ Places.lentAt + 2 * u32At (now request) Places.traceAccesses ≤ length (now bytes) ⌝ }
 {
-    if !read(&mut bytes[28..]) {
+    if !read(&mut bytes[places::LENT_AT..]) {
         return Frame::Stopped(2);
     }
     let at = answers::traces::answer(request, bytes, blocks);
@@ -61,27 +63,27 @@ fn traced(request: &[u8; 21], bytes: &mut [u8], blocks: &mut [u16]) -> Frame
 }
 
 // The arguments end with the number of blocks and the number of marks.
-pub fn trace(request: &[u8; 21], bytes: &mut [u8], blocks: &mut [u16]) -> Frame
+pub fn trace(request: &[u8; places::ARGUMENTS_ROOM], bytes: &mut [u8], blocks: &mut [u16]) -> Frame
     requires { ⌜ Room.bytes ≤ length (now bytes) ⌝ }
     requires { ⌜ Room.accesses ≤ length (now blocks) ⌝ }
 {
-    let n = layout::u32_at(request, 3) as usize;
-    let m = layout::u32_at(request, 7) as usize;
+    let n = layout::u32_at(request, places::TRACE_ACCESSES) as usize;
+    let m = layout::u32_at(request, places::TRACE_MARKS) as usize;
     if n > ACCESSES {
         return Frame::Stopped(3);
     }
     if m > ACCESSES {
         return Frame::Stopped(3);
     }
-    let end = 28 + 2 * n + m;
+    let end = places::LENT_AT + 2 * n + m;
     traced(request, &mut bytes[0..end], blocks)
 }
 
-fn checked(request: &[u8; 21], bytes: &mut [u8], numbers: &mut [u64]) -> Frame
-    requires { ⌜ u32At (now request) 4 ≤ length (now numbers) ⌝ }
-    requires { ⌜ length (now bytes) ≡ 28 + (u32At (now request) 0 + 8 * u32At (now request) 4) ⌝ }
+fn checked(request: &[u8; places::ARGUMENTS_ROOM], bytes: &mut [u8], numbers: &mut [u64]) -> Frame
+    requires { ⌜ u32At (now request) Places.checkNumbers ≤ length (now numbers) ⌝ }
+    requires { ⌜ length (now bytes) ≡ Places.lentAt + (u32At (now request) 0 + 8 * u32At (now request) Places.checkNumbers) ⌝ }
 {
-    if !read(&mut bytes[28..]) {
+    if !read(&mut bytes[places::LENT_AT..]) {
         return Frame::Stopped(2);
     }
     let at = answers::checks::answer(request, bytes, numbers);
@@ -89,18 +91,18 @@ fn checked(request: &[u8; 21], bytes: &mut [u8], numbers: &mut [u64]) -> Frame
 }
 
 // The arguments: the number of bytes, the number of numbers.
-pub fn check(request: &[u8; 21], bytes: &mut [u8], numbers: &mut [u64]) -> Frame
+pub fn check(request: &[u8; places::ARGUMENTS_ROOM], bytes: &mut [u8], numbers: &mut [u64]) -> Frame
     requires { ⌜ Room.bytes ≤ length (now bytes) ⌝ }
     requires { ⌜ Room.numbers ≤ length (now numbers) ⌝ }
 {
     let n = layout::u32_at(request, 0) as usize;
-    let m = layout::u32_at(request, 4) as usize;
+    let m = layout::u32_at(request, places::CHECK_NUMBERS) as usize;
     if n > FILE {
         return Frame::Stopped(3);
     }
     if m > NUMBERS {
         return Frame::Stopped(3);
     }
-    let end = 28 + n + 8 * m;
+    let end = places::LENT_AT + n + 8 * m;
     checked(request, &mut bytes[0..end], numbers)
 }

@@ -4,6 +4,7 @@ use mathlib.Core.Path.{_∙_, ap}
 use lib.ListN.{length}
 use borrow.Author.Needs.{needs}
 use Rattle.frames.specs.Frames.{traceHead}
+use Rattle.frames.specs.Places.{missesWidth, lentAt}
 use Rattle.frames.proofs.Answering.{answered-as, answered-before, front-same}
 use Rattle.answers.proofs.Asking.{drop-place}
 use Rattle.answers.proofs.traces.framed.Statement.{statement}
@@ -16,8 +17,8 @@ returns c =
     let t = h .before .before .before .before .before in
     let s = t .before .before .before .before .before in
     let l = t .traced .last .1 .0 in
-    let e = drop-place l (f .front .result) (28 + 2 * length (s .args .blocks .now)) (search needs) (t .traced .ensures .1) in
-    answered-as (front-same 4 8 _ (h .head-of .ensures ∙ ap traceHead (t .traced .ensures .0)))
+    let e = drop-place l (f .front .result) (lentAt + 2 * length (s .args .blocks .now)) (search needs) (t .traced .ensures .1) in
+    answered-as (front-same 4 missesWidth _ (h .head-of .ensures ∙ ap traceHead (t .traced .ensures .0)))
     (answered-before {l = l} _ (search needs) (f .front .ensures .0) e)
 
 pub framed-spec : {M : Type 1} → statement M

@@ -1,0 +1,64 @@
+// Where things lie in a request and in an answer, by name: the one place in code that has their sizes and offsets. specs/Places.antt has the definitions.
+
+// An answer's head: the operation, the refusal's number, its place.
+pub const HEAD_SIZE: usize = 10;
+
+// What follows the head first: a step's outcome, a block, a set, the misses of a trace.
+pub const OUTCOME_WIDTH: usize = 1;
+
+pub const BLOCK_WIDTH: usize = 2;
+
+pub const SET_WIDTH: usize = 1;
+
+pub const MISSES_WIDTH: usize = 8;
+
+// A step's answer, with eight lines and bits, is the longest without lent memory. The lent memory stands after room for it.
+pub const LENT_AT: usize = HEAD_SIZE + OUTCOME_WIDTH + 16 + 1;
+
+// Where the other answers begin: before the lent memory, so that they end where it begins, or go on with it.
+pub const BLOCK_AT: usize = LENT_AT - HEAD_SIZE - BLOCK_WIDTH;
+
+pub const SET_AT: usize = LENT_AT - HEAD_SIZE - SET_WIDTH;
+
+pub const TRACE_AT: usize = LENT_AT - HEAD_SIZE - MISSES_WIDTH;
+
+pub const CHECK_AT: usize = LENT_AT - HEAD_SIZE;
+
+// "the byte 0, then one byte that says why, then the number of frames answered before it, u64"
+pub const LAST_SIZE: usize = 10;
+
+// The arguments of each operation. A step's take most.
+pub const STEP_SIZE: usize = 21;
+
+pub const BLOCK_SIZE: usize = 8;
+
+pub const SET_SIZE: usize = 3;
+
+pub const TRACE_SIZE: usize = 11;
+
+pub const CHECK_SIZE: usize = 8;
+
+pub const ARGUMENTS_ROOM: usize = STEP_SIZE;
+
+// Arguments that do not stand first.
+pub const STEP_WAYS: usize = 1;
+
+pub const STEP_LINES: usize = 2;
+
+pub const STEP_BITS: usize = 18;
+
+pub const STEP_BLOCK: usize = 19;
+
+pub const BLOCK_LINE_SIZE: usize = 4;
+
+pub const SET_SETS: usize = 2;
+
+pub const TRACE_WAYS: usize = 1;
+
+pub const TRACE_SETS: usize = 2;
+
+pub const TRACE_ACCESSES: usize = 3;
+
+pub const TRACE_MARKS: usize = 7;
+
+pub const CHECK_NUMBERS: usize = 4;
