@@ -6,7 +6,8 @@ use mathlib.Core.Path.{_≡_, refl}
 use mathlib.Core.List.{List, [], _∷_, _++_}
 use lib.ListN.{length, getD, drop, length-append, drop-of-length-le}
 use lib.Seq.{drop-cons}
-use Rattle.print.proofs.Putting.{Left}
+use Rattle.print.specs.Put.{Put}
+use Rattle.print.proofs.Putting.{Left, left-start, left-more, left-end}
 use Rattle.frames.specs.Little.{little, littles}
 
 pub little-length : (width x : ℕ) → length (little width x) ≡ width
@@ -33,12 +34,22 @@ module _ {old text l : List ℕ} {at to : ℕ} (left rest : ℕ) (f : Left old a
       let e : left ≡ 0 = omega arith in
       rw e at f
 
--- a loop over numbers
-module _ {old text l : List ℕ} {at to : ℕ} (width : ℕ) (xs : List ℕ) (i : ℕ) (f : Left old at text l to (littles width (drop i xs))) where
-  pub next-number : i < length xs → Left old at text l to (little width (getD xs i 0) ++ littles width (drop (i + 1) xs))
-  unfolding littles
-  next-number h = rw add-one (rw (drop-cons xs i 0 h) at f)
+-- Of a list of numbers, width bytes each, that is put from `at` on, the first i are put: the others are left.
+pub record Begun (width : ℕ) (old : List ℕ) (at : ℕ) (xs l : List ℕ) (to i : ℕ) : Type 0 where
+  pub left : Left old at (littles width xs) l to (littles width (drop i xs))
+  pub place : to ≡ at + width * i
+  pub few : i ≤ length xs
 
-  pub no-number : length xs ≤ i → Left old at text l to []
+module _ {width : ℕ} {old : List ℕ} {at : ℕ} {xs : List ℕ} where
+  pub begun-start : Begun width old at xs old at 0
+  begun-start = record { left = left-start; place = omega arith; few = omega arith }
+
+  pub begun-more : {l m : List ℕ} {to next i : ℕ} → Begun width old at xs l to i → i < length xs → Put l to (little width (getD xs i 0)) next m → next ≡ to + width →
+      Begun width old at xs m next (i + 1)
   unfolding littles
-  no-number h = rw (drop-of-length-le xs {i = i} h) at f
+  begun-more {i = i} f h p e =
+      record { left = left-more p (rw add-one (rw (drop-cons xs i 0 h) at (f .left))); place = omega (arith, f .place); few = omega arith }
+
+  pub begun-end : {l : List ℕ} {to i : ℕ} → Begun width old at xs l to i → length xs ≤ i → Put old at (littles width xs) to l
+  unfolding littles
+  begun-end {i = i} f h = left-end (rw (drop-of-length-le xs {i = i} h) at (f .left))

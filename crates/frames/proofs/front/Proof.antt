@@ -11,7 +11,8 @@ returns c =
     let value = c .before .before in
     let place = value .before .before .before .before in
     let number = place .before .before .before .before in
-    let operation = number .before .before .before .before .before .before in (
+    let refusal = number .before .before .before in
+    let operation = refusal .before .before .before in (
       put-then
           (put-then (operation .put .ensures .0) (put-then (number .put2 .ensures .0) (place .put3 .ensures .0)))
           (value .put4 .ensures .0),

@@ -8,13 +8,19 @@ use Rattle.answers.proofs.checks.framed.Tie as tie
 
 returns : tie.Need-returns
 returns c =
-    let n = c .before .before in
-    let f = n .before .before .before .before .before in
+    let p = c .before .before in
+    let f = p .before .before .before .before .before in
     let h = f .before .before in
     let k = h .before .before .before in
-    let s = k .before .before .before .before .before .before .before .before in
+    let at = k .before .before .before .before in
+    let s = at .before .before .before .before in
     answered-as (check-framed (s .args .request .now) (s .args .bytes .now) (h .head-of .ensures) (k .checked .ensures .0) (k .checked .ensures .1))
-    (answered-whole {l = s .args .bytes .now} (search needs) (put-then (f .front .ensures .0) (n .put-numbers .ensures .0)))
+    (answered-whole {l = s .args .bytes .now} (search needs) (put-then (f .front .ensures .0) (p .put-numbers .ensures .0)))
 
 pub framed-spec : {M : Type 1} → statement M
-framed-spec = tie.close (tie.spec (λ c κs. search needs) (λ c. search needs) (λ c. search needs) (λ c. search needs) (λ c. search needs) (λ c. search needs) (λ c κs. search needs) (λ c κs. search needs) (λ c κs. search needs) (λ c κs. search needs) (λ c. search needs) (λ c. search needs) returns)
+framed-spec =
+    tie.close
+    (tie.spec
+    (λ c κs. search needs) (λ c. search needs) (λ c. search needs) (λ c. search needs) (λ c. search needs) (λ c. search needs)
+    (λ c κs. search needs) (λ c κs. search needs) (λ c κs. search needs) (λ c κs. search needs) (λ c. search needs) (λ c. search needs)
+    returns)

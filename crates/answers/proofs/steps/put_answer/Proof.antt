@@ -18,4 +18,8 @@ returns c =
     (answered-whole {l = s .args .out .now} (search needs) (put-then (f .front .ensures .0) (put-then (l .put-blocks .ensures .0) (p .put .ensures .0))))
 
 pub put-answer-spec : {M : Type 1} → statement M
-put-answer-spec = tie.close (tie.spec (λ c κs. search needs) (λ c κs. search needs) (λ c. search needs) (λ c κs. search needs) (λ c κs. search needs) (λ c. search needs) returns)
+put-answer-spec =
+    tie.close
+    (tie.spec
+    (λ c κs. search needs) (λ c κs. search needs) (λ c. search needs) (λ c κs. search needs) (λ c κs. search needs) (λ c. search needs)
+    returns)

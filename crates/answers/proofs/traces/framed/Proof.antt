@@ -22,4 +22,9 @@ returns c =
     (answered-before {l = l} _ (search needs) (f .front .ensures .0) e)
 
 pub framed-spec : {M : Type 1} → statement M
-framed-spec = tie.close (tie.spec (λ c. search needs) (λ c. search needs) (λ c κs. search needs) (λ c κs. search needs) (λ c κs. search needs) (λ c. search needs) (λ c. search needs) returns)
+framed-spec =
+    tie.close
+    (tie.spec
+    (λ c. search needs) (λ c. search needs) (λ c κs. search needs) (λ c κs. search needs) (λ c κs. search needs) (λ c. search needs)
+    (λ c. search needs)
+    returns)
