@@ -26,7 +26,8 @@ returns-2 c =
 
 returns-3 : tie.Need-returns-3
 returns-3 c =
-    let read = c .before .before .before .before .before .before in
+    let lent = c .before .before .before in
+    let read = lent .before .before .before in
     let o = read .before .before in
     let p = o .before .before .before .before .check .ensures in
     printed-as
