@@ -1,5 +1,5 @@
 // Operation 2, the block of an address.
-use frames::Head;
+use frames::heads;
 use frames::places;
 use paper::Address;
 use paper::BlockAnswer;
@@ -7,15 +7,6 @@ ghost use mathlib.Core.Path.{_≡_};
 ghost use lib.ListN.{length};
 ghost use Rattle.frames.specs.Frames as Frames;
 ghost use Rattle.frames.specs.Places as Places;
-
-fn head_of(answer: BlockAnswer) -> Head
-    ensures { λ r. ⌜ r ≡ Frames.blockHead answer ⌝ }
-{
-    match answer {
-        BlockAnswer::Found(b) => frames::found(b.0 as u64),
-        BlockAnswer::Refused(r) => frames::refused(r, 0),
-    }
-}
 
 // The arguments: address, line size.
 fn asked(request: &[u8; places::ARGUMENTS_ROOM]) -> BlockAnswer
@@ -34,7 +25,7 @@ pub fn answer(request: &[u8; places::ARGUMENTS_ROOM], out: &mut [u8]) -> usize
         places::BLOCK_AT,
         2,
         places::BLOCK_WIDTH,
-        head_of(asked(request)),
+        heads::block(asked(request)),
     );
     places::BLOCK_AT
 }

@@ -1,5 +1,5 @@
 // Operation 5, the check.
-use frames::Head;
+use frames::heads;
 use frames::places;
 use paper::Verdict;
 ghost use mathlib.Core.Path.{_≡_};
@@ -9,15 +9,6 @@ ghost use Rattle.paper.specs.Files.{u32At};
 ghost use Rattle.paper.specs.Verdicts.{lentAfter};
 ghost use Rattle.frames.specs.Frames as Frames;
 ghost use Rattle.frames.specs.Places as Places;
-
-fn head_of(verdict: Verdict) -> Head
-    ensures { λ r. ⌜ r ≡ Frames.checkHead verdict ⌝ }
-{
-    match verdict {
-        Verdict::Accepted => frames::found(0),
-        Verdict::Refused(r) => frames::refused(r, 0),
-    }
-}
 
 // The arguments: the number of bytes, the number of numbers. The lent memory: the file, then the numbers.
 fn checked(request: &[u8; places::ARGUMENTS_ROOM], lent: &[u8], numbers: &mut [u64]) -> Verdict
@@ -38,7 +29,7 @@ fn framed(request: &[u8; places::ARGUMENTS_ROOM], bytes: &mut [u8], numbers: &mu
     ensures { λ r. ⌜ Frames.Answered (Frames.checkFrame (Frames.checkAsked (now (request .entry)) (drop Places.lentAt (now (bytes .entry)))) (Frames.numbersAfter (now (request .entry)) (drop Places.lentAt (now (bytes .entry))))) r (now (bytes .exit)) ⌝ }
 {
     let at = places::CHECK_AT + layout::u32_at(request, 0) as usize;
-    let head = head_of(checked(request, &bytes[places::LENT_AT..], numbers));
+    let head = heads::check(checked(request, &bytes[places::LENT_AT..], numbers));
     let after_head = frames::front(bytes, at, 5, 0, head);
     frames::numbers::put_numbers(bytes, after_head, numbers);
     at

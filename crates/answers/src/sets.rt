@@ -1,5 +1,5 @@
 // Operation 3, the set of a block.
-use frames::Head;
+use frames::heads;
 use frames::places;
 use paper::Block;
 use paper::SetAnswer;
@@ -7,15 +7,6 @@ ghost use mathlib.Core.Path.{_≡_};
 ghost use lib.ListN.{length};
 ghost use Rattle.frames.specs.Frames as Frames;
 ghost use Rattle.frames.specs.Places as Places;
-
-fn head_of(answer: SetAnswer) -> Head
-    ensures { λ r. ⌜ r ≡ Frames.setHead answer ⌝ }
-{
-    match answer {
-        SetAnswer::Found(q) => frames::found(q.0 as u64),
-        SetAnswer::Refused(r) => frames::refused(r, 0),
-    }
-}
 
 // The arguments: block, sets.
 fn asked(request: &[u8; places::ARGUMENTS_ROOM]) -> SetAnswer
@@ -34,7 +25,7 @@ pub fn answer(request: &[u8; places::ARGUMENTS_ROOM], out: &mut [u8]) -> usize
         places::SET_AT,
         3,
         places::SET_WIDTH,
-        head_of(asked(request)),
+        heads::set(asked(request)),
     );
     places::SET_AT
 }

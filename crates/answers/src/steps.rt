@@ -1,5 +1,5 @@
 // Operation 1, the single step.
-use frames::Head;
+use frames::heads;
 use frames::places;
 use paper::Block;
 use paper::Outcome;
@@ -9,16 +9,6 @@ ghost use mathlib.Core.Path.{_≡_};
 ghost use lib.ListN.{length};
 ghost use Rattle.frames.specs.Frames as Frames;
 ghost use Rattle.frames.specs.Places as Places;
-
-fn head_of(outcome: Outcome) -> Head
-    ensures { λ r. ⌜ r ≡ Frames.stepHead outcome ⌝ }
-{
-    match outcome {
-        Outcome::Hit => frames::found(0),
-        Outcome::Miss => frames::found(1),
-        Outcome::Refused(r) => frames::refused(r, 2),
-    }
-}
 
 // The arguments: policy, ways, eight lines, bits, block.
 fn stepped(request: &[u8; places::ARGUMENTS_ROOM]) -> StepAnswer
@@ -40,7 +30,7 @@ fn put_answer(out: &mut [u8], outcome: Outcome, lines: [u16; 8], bits: u8) -> us
     requires { ⌜ length (now out) ≡ Places.lentAt ⌝ }
     ensures { λ r. ⌜ Frames.Answered (Frames.stepFrame (Frames.stepOf outcome lines bits)) r (now (out .exit)) ⌝ }
 {
-    let after_head = frames::front(out, 0, 1, places::OUTCOME_WIDTH, head_of(outcome));
+    let after_head = frames::front(out, 0, 1, places::OUTCOME_WIDTH, heads::step(outcome));
     let after_lines = frames::numbers::put_blocks(out, after_head, &lines);
     frames::numbers::put(out, after_lines, 1, bits as u64);
     0

@@ -1,5 +1,5 @@
 // Operation 4, the trace run.
-use frames::Head;
+use frames::heads;
 use frames::places;
 use paper::TraceAnswer;
 ghost use mathlib.Core.Path.{_≡_};
@@ -8,15 +8,6 @@ ghost use lib.ListN.{length, drop};
 ghost use Rattle.paper.specs.Files.{u32At};
 ghost use Rattle.frames.specs.Frames as Frames;
 ghost use Rattle.frames.specs.Places as Places;
-
-fn head_of(answer: TraceAnswer) -> Head
-    ensures { λ r. ⌜ r ≡ Frames.traceHead answer ⌝ }
-{
-    match answer {
-        TraceAnswer::Misses(misses) => frames::found(misses as u64),
-        TraceAnswer::Refused(r) => frames::refused(r, 0),
-    }
-}
 
 // The arguments: policy, ways, sets, the number of blocks, the number of marks. The lent memory: the blocks, then the marks.
 fn traced(
@@ -47,7 +38,7 @@ fn framed(request: &[u8; places::ARGUMENTS_ROOM], bytes: &mut [u8], blocks: &mut
     ensures { λ r. ⌜ Frames.Answered (Frames.traceFrame (Frames.traceAsked (now (request .entry)) (drop Places.lentAt (now (bytes .entry))))) r (now (bytes .exit)) ⌝ }
 {
     let at = places::TRACE_AT + 2 * blocks.len();
-    let head = head_of(traced(request, bytes, blocks));
+    let head = heads::trace(traced(request, bytes, blocks));
     frames::front(bytes, at, 4, places::MISSES_WIDTH, head);
     at
 }

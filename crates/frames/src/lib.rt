@@ -1,4 +1,5 @@
 // The frames of `pipe`, as bytes: docs/PIPE.md in words, specs/Frames.antt as definitions.
+pub mod heads;
 pub mod numbers;
 pub mod places;
 
@@ -14,24 +15,6 @@ ghost use Rattle.frames.specs.Places.{headSize, lastSize};
 pub struct Head {
     pub refusal: Refusal,
     pub value: u64,
-}
-
-pub fn found(value: u64) -> Head
-    ensures { λ r. ⌜ r ≡ Frames.found value ⌝ }
-{
-    Head {
-        refusal: paper::refuse(0, 0),
-        value: value,
-    }
-}
-
-pub fn refused(refusal: Refusal, value: u64) -> Head
-    ensures { λ r. ⌜ r ≡ Frames.refusedWith refusal value ⌝ }
-{
-    Head {
-        refusal: refusal,
-        value: value,
-    }
 }
 
 // Puts the head of an answer at a place: the operation, the refusal, and the value in as many bytes as it takes.

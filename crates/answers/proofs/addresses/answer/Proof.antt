@@ -10,7 +10,7 @@ use Rattle.answers.proofs.addresses.answer.Tie as tie
 returns : tie.Need-returns
 returns c =
     let f = c .before .before in
-    answered-as (ap (front 2 blockWidth) (f .before .head-of .ensures ∙ ap blockHead (f .before .before .asked .ensures))) (answered-whole (search needs) (f .front .ensures .0))
+    answered-as (ap (front 2 blockWidth) (f .before .block .ensures ∙ ap blockHead (f .before .before .asked .ensures))) (answered-whole (search needs) (f .front .ensures .0))
 
 pub answer-spec : {M : Type 1} → statement M
 answer-spec = tie.close (tie.spec (λ c κs. search needs) (λ c κs. search needs) (λ c κs. search needs) (λ c. search needs) returns)

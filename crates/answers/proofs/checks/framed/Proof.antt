@@ -14,7 +14,7 @@ returns c =
     let k = h .before .before .before in
     let at = k .before .before .before .before in
     let s = at .before .before .before .before in
-    answered-as (check-framed (s .args .request .now) (s .args .bytes .now) (h .head-of .ensures) (k .checked .ensures .0) (k .checked .ensures .1))
+    answered-as (check-framed (s .args .request .now) (s .args .bytes .now) (h .check .ensures) (k .checked .ensures .0) (k .checked .ensures .1))
     (answered-whole {l = s .args .bytes .now} (search needs) (put-then (f .front .ensures .0) (p .put-numbers .ensures .0)))
 
 pub framed-spec : {M : Type 1} → statement M

@@ -14,7 +14,7 @@ returns c =
     let l = p .before .before .before .before in
     let f = l .before .before .before .before .before in
     let s = f .before .before .before .before in
-    answered-as (front-same 1 outcomeWidth _ (f .before .head-of .ensures))
+    answered-as (front-same 1 outcomeWidth _ (f .before .step .ensures))
     (answered-whole {l = s .args .out .now} (search needs) (put-then (f .front .ensures .0) (put-then (l .put-blocks .ensures .0) (p .put .ensures .0))))
 
 pub put-answer-spec : {M : Type 1} → statement M

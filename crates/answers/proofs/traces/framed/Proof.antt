@@ -18,7 +18,7 @@ returns c =
     let s = t .before .before .before .before .before in
     let l = t .traced .last .1 .0 in
     let e = drop-place l (f .front .result) (lentAt + 2 * length (s .args .blocks .now)) (search needs) (t .traced .ensures .1) in
-    answered-as (front-same 4 missesWidth _ (h .head-of .ensures ∙ ap traceHead (t .traced .ensures .0)))
+    answered-as (front-same 4 missesWidth _ (h .trace .ensures ∙ ap traceHead (t .traced .ensures .0)))
     (answered-before {l = l} _ (search needs) (f .front .ensures .0) e)
 
 pub framed-spec : {M : Type 1} → statement M

@@ -1,9 +1,9 @@
--- `answers::sets::head_of`, case by case.
+-- `frames::heads::set`, case by case.
 use mathlib.Core.Path.{sym, _∙_, ap}
 use borrow.Author.Needs.{needs}
 use Rattle.frames.specs.Frames.{setHead}
-use Rattle.answers.proofs.sets.head_of.Statement.{statement}
-use Rattle.answers.proofs.sets.head_of.Tie as tie
+use Rattle.frames.proofs.heads.set.Statement.{statement}
+use Rattle.frames.proofs.heads.set.Tie as tie
 
 returns : tie.Need-returns
 returns c = c .found .ensures ∙ ap setHead (sym (c .before .before .before .answer .given .1))
@@ -11,8 +11,8 @@ returns c = c .found .ensures ∙ ap setHead (sym (c .before .before .before .an
 returns-2 : tie.Need-returns-2
 returns-2 c = c .refused .ensures ∙ ap setHead (sym (c .before .before .answer2 .given .1))
 
-pub head-of-spec : {M : Type 1} → statement M
-head-of-spec =
+pub set-spec : {M : Type 1} → statement M
+set-spec =
     tie.close
     (tie.spec
     (λ c. search needs) (λ c. search needs) (λ c κs. search needs) (λ c. search needs) (λ c κs. search needs)

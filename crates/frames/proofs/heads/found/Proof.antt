@@ -1,7 +1,7 @@
--- `frames::found`: an answer that is no refusal has number and place 0.
+-- `frames::heads::found`: an answer that is no refusal has number and place 0.
 use borrow.Author.Needs.{needs}
-use Rattle.frames.proofs.found.Statement.{statement}
-use Rattle.frames.proofs.found.Tie as tie
+use Rattle.frames.proofs.heads.found.Statement.{statement}
+use Rattle.frames.proofs.heads.found.Tie as tie
 
 returns : tie.Need-returns
 returns c = rw (c .refuse .ensures)

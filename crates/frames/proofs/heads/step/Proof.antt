@@ -1,9 +1,9 @@
--- `answers::steps::head_of`, case by case.
+-- `frames::heads::step`, case by case.
 use mathlib.Core.Path.{sym, _∙_, ap}
 use borrow.Author.Needs.{needs}
 use Rattle.frames.specs.Frames.{stepHead}
-use Rattle.answers.proofs.steps.head_of.Statement.{statement}
-use Rattle.answers.proofs.steps.head_of.Tie as tie
+use Rattle.frames.proofs.heads.step.Statement.{statement}
+use Rattle.frames.proofs.heads.step.Tie as tie
 
 returns : tie.Need-returns
 returns c = c .found .ensures ∙ ap stepHead (sym (c .before .enum-told .given .1))
@@ -14,8 +14,8 @@ returns-2 c = c .found2 .ensures ∙ ap stepHead (sym (c .before .enum-told2 .gi
 returns-3 : tie.Need-returns-3
 returns-3 c = c .refused .ensures ∙ ap stepHead (sym (c .before .before .outcome .given .1))
 
-pub head-of-spec : {M : Type 1} → statement M
-head-of-spec =
+pub step-spec : {M : Type 1} → statement M
+step-spec =
     tie.close
     (tie.spec
     (λ c. search needs) (λ c κs. search needs) (λ c. search needs) (λ c κs. search needs) (λ c. search needs) (λ c κs. search needs)
