@@ -1,4 +1,4 @@
--- `answers::argument_bytes`, operation by operation.
+-- `answers::argument_bytes`: an operation's number passes its own test of `argumentBytes` and fails those before it.
 use native.Mathlib.Omega.{arith}
 use borrow.Author.Tests.{ne-eqb}
 use Rattle.frames.specs.Frames.{argumentBytes}

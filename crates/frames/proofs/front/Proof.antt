@@ -1,4 +1,4 @@
--- `frames::front` is its parts, one after another.
+-- `frames::front`: parts that are put one after another are one text, the head and the value.
 use borrow.Author.Needs.{needs}
 use Rattle.print.proofs.Putting.{put-then}
 use Rattle.frames.specs.Frames.{head, front}

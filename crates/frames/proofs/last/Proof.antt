@@ -1,4 +1,4 @@
--- `frames::last` is its parts, one after another, and they fill the ten bytes.
+-- `frames::last`: parts that are put one after another are one text, and it fills the bytes.
 use borrow.Author.Needs.{needs}
 use Rattle.print.proofs.Putting.{put-then}
 use Rattle.frames.specs.Frames.{lastFrame}

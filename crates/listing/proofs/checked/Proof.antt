@@ -1,4 +1,4 @@
--- `listing::checked` prints what the check and the layout say.
+-- `listing::checked`: the check's verdict is the paper's, and the layout that is read again is the one it was made by.
 use mathlib.Core.Path.{sym, _∙_}
 use borrow.Author.Needs.{needs}
 use Rattle.layout.proofs.Laws.{read-laid}

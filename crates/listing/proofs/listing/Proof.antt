@@ -1,4 +1,4 @@
--- `listing::listing` refuses longer input, and prints what is checked.
+-- `listing::listing` tests the length as `listingOf` does, and prints what is checked.
 use borrow.Author.Needs.{needs}
 use Rattle.listing.proofs.ListingTexts.{printed-as, longer, not-longer}
 use Rattle.listing.proofs.listing.Statement.{statement}

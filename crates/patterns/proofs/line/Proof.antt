@@ -1,4 +1,4 @@
--- `patterns::line` is its parts, one after another.
+-- `patterns::line`: each part fits because the whole line does, and put one after another they are it.
 use borrow.Author.Needs.{needs}
 use Rattle.paper.specs.Patterns.{patternLine}
 use Rattle.print.proofs.Putting.{first-fits, then-fits, put-then}

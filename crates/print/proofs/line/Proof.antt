@@ -1,4 +1,4 @@
--- `print::line` is its parts, one after another.
+-- `print::line`: each part fits because the whole line does, and put one after another they are it.
 use borrow.Author.Needs.{needs}
 use Rattle.paper.specs.Listings.{line}
 use Rattle.print.proofs.Putting.{first-fits, then-fits, put-then}

@@ -1,4 +1,4 @@
--- `print::line_of_two` is its parts, one after another.
+-- `print::line_of_two`: each part fits because the whole line does, and put one after another they are it.
 use borrow.Author.Needs.{needs}
 use Rattle.paper.specs.Listings.{lineOfTwo}
 use Rattle.print.proofs.Putting.{first-fits, then-fits, put-then}

@@ -1,4 +1,4 @@
--- `answers::addresses::asked` asks by the arguments in their order.
+-- `answers::addresses::asked`: what is read are the arguments in their order, and the promise leaves one answer to them.
 use borrow.Author.Needs.{needs}
 use Rattle.frames.specs.Frames.{blockAsked}
 use Rattle.bolgverk.proofs.Determined.{block-answer}

@@ -1,4 +1,4 @@
--- `answers::sets::asked` asks by the arguments in their order.
+-- `answers::sets::asked`: what is read are the arguments in their order, and the promise leaves one answer to them.
 use borrow.Author.Needs.{needs}
 use Rattle.frames.specs.Frames.{setAsked}
 use Rattle.bolgverk.proofs.Determined.{set-answer}

@@ -1,4 +1,4 @@
--- `answers::steps::answer` puts the frame of the step that is asked for.
+-- `answers::steps::answer` puts the parts of what was stepped, and they are all that its frame reads.
 use mathlib.Core.Path.{ap}
 use borrow.Author.Needs.{needs}
 use Rattle.frames.specs.Frames.{stepFrame}

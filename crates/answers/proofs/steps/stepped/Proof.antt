@@ -1,4 +1,4 @@
--- `answers::steps::stepped` asks by the arguments in their order.
+-- `answers::steps::stepped`: what is read are the arguments in their order, and the promise leaves one answer to them.
 use borrow.Author.Needs.{needs}
 use Rattle.answers.proofs.Asking.{step-asked}
 use Rattle.answers.proofs.steps.stepped.Statement.{statement}

@@ -1,4 +1,4 @@
--- `answers::traces::framed` puts the head before the marks.
+-- `answers::traces::framed` puts the head so that it ends where the marks begin, which stay as the trace left them.
 use Prim.Native.Nat.{_+_, _*_}
 use mathlib.Core.Path.{_∙_, ap}
 use lib.ListN.{length}

@@ -1,4 +1,4 @@
--- `frames::heads::block`, case by case.
+-- `frames::heads::block`: what is told in each case is what `blockHead` says of it.
 use mathlib.Core.Path.{sym, _∙_, ap}
 use borrow.Author.Needs.{needs}
 use Rattle.frames.specs.Frames.{blockHead}

@@ -1,4 +1,4 @@
--- `frames::heads::check`, case by case.
+-- `frames::heads::check`: what is told in each case is what `checkHead` says of it.
 use mathlib.Core.Path.{sym, _∙_, ap}
 use borrow.Author.Needs.{needs}
 use Rattle.frames.specs.Frames.{checkHead}

@@ -1,4 +1,4 @@
--- `frames::heads::set`, case by case.
+-- `frames::heads::set`: what is told in each case is what `setHead` says of it.
 use mathlib.Core.Path.{sym, _∙_, ap}
 use borrow.Author.Needs.{needs}
 use Rattle.frames.specs.Frames.{setHead}

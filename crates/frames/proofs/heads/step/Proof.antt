@@ -1,4 +1,4 @@
--- `frames::heads::step`, case by case.
+-- `frames::heads::step`: what is told in each case is what `stepHead` says of it.
 use mathlib.Core.Path.{sym, _∙_, ap}
 use borrow.Author.Needs.{needs}
 use Rattle.frames.specs.Frames.{stepHead}

@@ -1,4 +1,4 @@
--- `frames::heads::trace`, case by case.
+-- `frames::heads::trace`: what is told in each case is what `traceHead` says of it.
 use mathlib.Core.Path.{sym, _∙_, ap}
 use borrow.Author.Needs.{needs}
 use Rattle.frames.specs.Frames.{traceHead}

@@ -1,4 +1,4 @@
--- `frames::numbers::put` puts a number's bytes one after another: those of what is left of it are left.
+-- `frames::numbers::put` puts the least byte first: after it the bytes of the number divided by 256 are left.
 use Prim.Native.Nat.{_+_}
 use mathlib.Core.Path.{_≡_, refl}
 use borrow.Author.Needs.{needs}

@@ -1,4 +1,4 @@
--- `filecases::small::put_loops` is safe and ends: each turn puts one loop.
+-- `try_files::small::put_loops` is safe and ends: each turn puts one loop.
 use Prim.Native.Nat.{_-_}
 use mathlib.Core.Path.{_≡_}
 use borrow.Author.Needs.{needs}
