@@ -3,10 +3,9 @@ use Prim.Native.Nat.{ℕ, zero, suc, _+_, _-_, _*_, _/_, _%_, _^_, _<_, _≤_, m
 use native.Mathlib.Nat.{pow-suc, mod-eq-of-lt, not-suc-le-zero, le-of-suc-le-suc}
 use native.Mathlib.Decide.{ℕ-discrete, decLt}
 use native.Mathlib.Omega.{arith}
-use native.Mathlib.Numerals.{unary-clauses}
 use mathlib.Core.Path.{_≡_, refl, sym, _∙_, ap, ap₂}
 use lib.ListN.{getD}
-use lib.Pow.{pow-pos, pow-lt, pow-mono, ones-split, high, ones-lt}
+use lib.Pow.{pow-lt, pow-mono, ones-split, high, ones-lt}
 use lib.Bits.{bitOr, bitAnd, or-lt, and-step, and-zero-r}
 use lib.Count.{trailingZeros}
 use borrow.Author.Tests.{eq-eqb, ne-eqb}
@@ -17,20 +16,33 @@ use Rattle.paper.proofs.TableLaws.{getD-table}
 use Rattle.paper.proofs.Least.{least-is}
 use Rattle.paper.proofs.Bits.{bit-zero, bit-suc, all-ones}
 
+-- half of p's complement in m + 1 bits is the complement of p's half, and its lowest bit is 1 where p's is 0
+half-not : (q p : ℕ) → p < q * 2 → (q * 2 - 1 - p) / 2 ≡ q - 1 - p / 2
+half-not q p w = omega arith
+
+low-not : (q p : ℕ) → p < q * 2 → (q * 2 - 1 - p) % 2 ≡ 1 - p % 2
+low-not q p w = omega arith
+
+module _ (m p : ℕ) (w : p < 2 ^ suc m) where
+  not-half : (2 ^ suc m - 1 - p) / 2 ≡ 2 ^ m - 1 - p / 2
+  not-half = rw (pow-suc 2 m) (half-not (2 ^ m) p (rw (pow-suc 2 m) at w))
+
+  not-low : (b : ℕ) → p % 2 ≡ b → (2 ^ suc m - 1 - p) % 2 ≡ 1 - b
+  not-low b e = rw (pow-suc 2 m) (low-not (2 ^ m) p (rw (pow-suc 2 m) at w) ∙ ap (λ (n : ℕ). 1 - n) e)
+
+  half-less : p / 2 < 2 ^ m
+  half-less = omega (arith, pow-suc 2 m)
+
 -- the zeros below the lowest 1 of p's complement are the ones below the lowest 0 of p
 zeros : (m p : ℕ) → p < 2 ^ m → let t = trailingZeros m (2 ^ m - 1 - p) in ((i : ℕ) → i < t → bitAt p i ≡ 1) × (t < m → bitAt p t ≡ 0)
 unfolding trailingZeros
 zeros zero p w = (λ i h. absurd (not-suc-le-zero h), λ h. absurd (not-suc-le-zero h))
 zeros (suc m) p w =
-    let d : (2 ^ suc m - 1 - p) / 2 ≡ 2 ^ m - 1 - p / 2 = omega (arith, pow-suc 2 m, pow-pos m) in
     elim (ℕ-discrete (p % 2) 0) [
-      | yes e ↦
-          let f : (2 ^ suc m - 1 - p) % 2 ≡ 1 = omega (arith, pow-suc 2 m, pow-pos m) in
-          rw f (λ i h. absurd (not-suc-le-zero h), λ h. bit-zero p ∙ e)
+      | yes e ↦ rw (not-low m p w 0 e) (λ i h. absurd (not-suc-le-zero h), λ h. bit-zero p ∙ e)
       | no n ↦
-          let f : (2 ^ suc m - 1 - p) % 2 ≡ 0 = omega (arith, pow-suc 2 m, pow-pos m) in
-          let r = zeros m (p / 2) (omega (arith, pow-suc 2 m)) in
-          rw (f, d) (more n (r .0), λ h. bit-suc p _ ∙ r .1 (le-of-suc-le-suc h))
+          let r = zeros m (p / 2) (half-less m p w) in
+          rw (not-low m p w 1 (omega arith), not-half m p w) (more n (r .0), λ h. bit-suc p _ ∙ r .1 (le-of-suc-le-suc h))
     ]
   where
     more : {t : ℕ} → (p % 2 ≡ 0 → ⊥) → ((i : ℕ) → i < t → bitAt (p / 2) i ≡ 1) → (i : ℕ) → i < suc t → bitAt p i ≡ 1
@@ -59,28 +71,37 @@ victim-zeros m k p h g =
 and-not : (m p : ℕ) → p < 2 ^ m → bitAnd (2 ^ m - 1 - p) p ≡ 0
 and-not zero p w = let e : p ≡ 0 = omega arith in rw e (and-zero-r (2 ^ 0 - 1 - 0))
 and-not (suc m) p w =
-    let d : (2 ^ suc m - 1 - p) / 2 ≡ 2 ^ m - 1 - p / 2 = omega (arith, pow-suc 2 m, pow-pos m) in
-    let f : min ((2 ^ suc m - 1 - p) % 2) (p % 2) ≡ 0 = omega (arith, pow-suc 2 m, pow-pos m) in
-    and-step (2 ^ suc m - 1 - p) p ∙ rw (d, f, and-not m (p / 2) (omega (arith, pow-suc 2 m)))
+    let f : min (1 - p % 2) (p % 2) ≡ 0 = omega arith in
+    and-step (2 ^ suc m - 1 - p) p ∙ rw (not-half m p w, not-low m p w (p % 2) refl, f, and-not m (p / 2) (half-less m p w))
+
+-- the number after an even one has the same half, that after an odd one the next
+next-even : (p : ℕ) → p % 2 ≡ 0 → ((p + 1) / 2 ≡ p / 2) × ((p + 1) % 2 ≡ 1)
+next-even p e = omega arith
+
+next-odd : (p : ℕ) → (p % 2 ≡ 0 → ⊥) → ((p + 1) / 2 ≡ p / 2 + 1) × ((p + 1) % 2 ≡ 0) × (p % 2 ≡ 1)
+next-odd p n = omega arith
+
+half-next : (m p : ℕ) → (p % 2 ≡ 0 → ⊥) → p + 1 < 2 ^ suc m → p / 2 + 1 < 2 ^ m
+half-next m p n w = omega (arith, pow-suc 2 m)
+
+doubled : (t : ℕ) → 2 ^ t * 2 + 0 ≡ 2 ^ suc t
+doubled t = omega (arith, pow-suc 2 t)
 
 -- the bits that p's complement and p + 1 have in common: the lowest 0 of p
 low-bit : (m p : ℕ) → p + 1 < 2 ^ m → bitAnd (2 ^ m - 1 - p) (p + 1) ≡ 2 ^ trailingZeros m (2 ^ m - 1 - p)
 unfolding trailingZeros
 low-bit zero p w = absurd (omega arith)
 low-bit (suc m) p w =
-    let d : (2 ^ suc m - 1 - p) / 2 ≡ 2 ^ m - 1 - p / 2 = omega (arith, pow-suc 2 m, pow-pos m) in
+    let v : p < 2 ^ suc m = omega arith in
     elim (ℕ-discrete (p % 2) 0) [
       | yes e ↦
-          let f : (2 ^ suc m - 1 - p) % 2 ≡ 1 = omega (arith, pow-suc 2 m, pow-pos m) in
-          let g : (p + 1) / 2 ≡ p / 2 = omega arith in
-          let h : (p + 1) % 2 ≡ 1 = omega arith in
-          and-step (2 ^ suc m - 1 - p) (p + 1) ∙ rw (f, d, g, h, and-not m (p / 2) (omega (arith, pow-suc 2 m)))
+          let h = next-even p e in
+          and-step (2 ^ suc m - 1 - p) (p + 1) ∙ rw (not-low m p v 0 e, not-half m p v, h .0, h .1, and-not m (p / 2) (half-less m p v))
       | no n ↦
-          let f : (2 ^ suc m - 1 - p) % 2 ≡ 0 = omega (arith, pow-suc 2 m, pow-pos m) in
-          let g : (p + 1) / 2 ≡ p / 2 + 1 = omega arith in
-          let h : (p + 1) % 2 ≡ 0 = omega arith in
+          let h = next-odd p n in
           let t = trailingZeros m (2 ^ m - 1 - p / 2) in
-          and-step (2 ^ suc m - 1 - p) (p + 1) ∙ rw (f, d, g, h, low-bit m (p / 2) (omega (arith, pow-suc 2 m))) (omega (arith, pow-suc 2 t))
+          and-step (2 ^ suc m - 1 - p) (p + 1)
+          ∙ rw (not-low m p v 1 (h .2), not-half m p v, h .0, h .1, low-bit m (p / 2) (half-next m p n w)) (doubled t)
     ]
 
 pub victim-bit : (m k p : ℕ) → k ≤ m → p + 1 < 2 ^ k → bitAnd (2 ^ m - 1 - p) (p + 1) ≡ 2 ^ victim k p
