@@ -14,22 +14,29 @@ use lib.Seq.{getD-set-same, getD-set-other}
 use borrow.Author.Tests.{eq-eqb, ne-eqb, lt-ltb, le-ltb}
 use Rattle.paper.specs.Lists.{table}
 use Rattle.paper.specs.Machines.{none, lineOf, hits, pushed}
-use Rattle.paper.specs.Shifts.{keptFrom, weightOf, weighed, keptAfter, movedBy, replacedBy}
+use Rattle.lines.specs.Lines.{eight, eightSum, weightOf, weighed, keptAfter, movedBy, replacedBy}
+use Rattle.paper.specs.Shifts.{keptFrom}
 use Rattle.paper.proofs.States.{Distinct, line-at}
 use Rattle.paper.proofs.TableLaws.{getD-table, length-table, same-table, table-is}
 
--- eight values by their rule
-pub eight : (g : ℕ → ℕ) {x₀ x₁ x₂ x₃ x₄ x₅ x₆ x₇ : ℕ} → x₀ ≡ g 0 → x₁ ≡ g 1 → x₂ ≡ g 2 → x₃ ≡ g 3 → x₄ ≡ g 4 → x₅ ≡ g 5 → x₆ ≡ g 6 → x₇ ≡ g 7 → x₀ ∷ x₁ ∷ x₂ ∷ x₃ ∷ x₄ ∷ x₅ ∷ x₆ ∷ x₇ ∷ [] ≡ table g 8
-unfolding table
-eight g e₀ e₁ e₂ e₃ e₄ e₅ e₆ e₇ = rw (e₀, e₁, e₂, e₃, e₄, e₅, e₆, e₇)
+-- the eight of a rule are a table, and so known by their entries; their sum is that of a walk through the lines
+eight-is : (g : ℕ → ℕ) (l : List ℕ) → length l ≡ 8 → ((i : ℕ) → i < 8 → g i ≡ getD l i 0) → eight g ≡ l
+unfolding eight table
+eight-is g l e h = table-is g 8 l e h
 
-pub eight-weighed :
-    (l : List ℕ) (b : ℕ) {x₀ x₁ x₂ x₃ x₄ x₅ x₆ x₇ : ℕ} → length l ≡ 8 →
-    let g : ℕ → ℕ = λ i. cond (eqb (getD l i 0) b) (weightOf i) 0 in
-    x₀ ≡ g 0 → x₁ ≡ g 1 → x₂ ≡ g 2 → x₃ ≡ g 3 → x₄ ≡ g 4 → x₅ ≡ g 5 → x₆ ≡ g 6 → x₇ ≡ g 7 → x₀ + (x₁ + (x₂ + (x₃ + (x₄ + (x₅ + (x₆ + x₇)))))) ≡ weighed 0 l b
-unfolding table weighed
-eight-weighed l b e e₀ e₁ e₂ e₃ e₄ e₅ e₆ e₇ =
-    let f : weighed 0 (table (λ i. getD l i 0) 8) b ≡ weighed 0 l b = ap (λ (m : List ℕ). weighed 0 m b) (table-is (λ i. getD l i 0) 8 l e (λ i h. refl)) in
+eight-table : (f g : ℕ → ℕ) → ((i : ℕ) → i < 8 → f i ≡ g i) → eight f ≡ table g 8
+unfolding eight table
+eight-table f g h = same-table f g 8 h
+
+-- the weights of the lines from j on that hold b
+unfoldable pub weighedFrom : ℕ → List ℕ → ℕ → ℕ
+weighedFrom j [] b = 0
+weighedFrom j (x ∷ lines) b = cond (eqb x b) (weightOf j) 0 + weighedFrom (suc j) lines b
+
+pub weighed-walk : (l : List ℕ) (b : ℕ) → length l ≡ 8 → weighed l b ≡ weighedFrom 0 l b
+unfolding table weighed weighedFrom eightSum
+weighed-walk l b e =
+    let f : weighedFrom 0 (table (λ i. getD l i 0) 8) b ≡ weighedFrom 0 l b = ap (λ (m : List ℕ). weighedFrom 0 m b) (table-is (λ i. getD l i 0) 8 l e (λ i h. refl)) in
     omega arith
 
 -- bits have different values
@@ -41,7 +48,7 @@ bit-apart i j n e =
 pub replaced-set : (l : List ℕ) (m j b : ℕ) → length l ≡ 8 → m ≡ 2 ^ j → replacedBy l m b ≡ set l j b
 unfolding replacedBy
 replaced-set l m j b e f =
-    table-is _ 8 (set l j b) (length-set l j b ∙ e)
+    eight-is _ (set l j b) (length-set l j b ∙ e)
     (λ i h.
     elim (ℕ-discrete j i) [
       | yes p ↦ rw (eq-eqb m (2 ^ i) (f ∙ ap (λ (n : ℕ). 2 ^ n) p), p) (sym (getD-set-same l i b 0 (omega arith)))
@@ -80,8 +87,8 @@ once x b l a n e =
       | no y ↦ omega arith
     ]
 
-pub weighed-none : (j : ℕ) (l : List ℕ) (b : ℕ) → length l ≤ lineOf l b → weighed j l b ≡ 0
-unfolding weighed lineOf
+pub weighed-none : (j : ℕ) (l : List ℕ) (b : ℕ) → length l ≤ lineOf l b → weighedFrom j l b ≡ 0
+unfolding weighedFrom lineOf
 weighed-none j [] b h = refl
 weighed-none j (x ∷ l) b h =
     elim (ℕ-discrete x b) [
@@ -89,8 +96,8 @@ weighed-none j (x ∷ l) b h =
       | no n ↦ rw (ne-eqb x b n) (omega (arith, weighed-none (suc j) l b (omega (arith, rw (ne-eqb x b n) at h))))
     ]
 
-pub weighed-found : (j i : ℕ) (l : List ℕ) (b : ℕ) → Distinct l → b ≢ none → lineOf l b < length l → i ≡ j + lineOf l b → weighed j l b ≡ weightOf i
-unfolding weighed lineOf
+pub weighed-found : (j i : ℕ) (l : List ℕ) (b : ℕ) → Distinct l → b ≢ none → lineOf l b < length l → i ≡ j + lineOf l b → weighedFrom j l b ≡ weightOf i
+unfolding weighedFrom lineOf
 weighed-found j i [] b a n h q = absurd (not-suc-le-zero h)
 weighed-found j i (x ∷ l) b a n h q =
     elim (ℕ-discrete x b) [
@@ -139,7 +146,7 @@ length-pushed n l b h = rw (length-append, length-take, length-drop) (omega arit
 pub moved-pushed : (j n : ℕ) (l : List ℕ) (b : ℕ) → length l ≡ 8 → j < 8 → n ≡ suc j → movedBy (keptFrom n) l b ≡ pushed j l b
 unfolding movedBy keptFrom
 moved-pushed j n l b e h q =
-    table-is _ 8 (pushed j l b) (length-pushed j l b (omega arith) ∙ e)
+    eight-is _ (pushed j l b) (length-pushed j l b (omega arith) ∙ e)
     (λ i g.
     rw (getD-table (λ i. cond (ltb i n) 0 none) 8 i 0 g)
     (elim (decLt i n) [
@@ -151,12 +158,12 @@ moved-pushed j n l b e h q =
 pub kept-none : (n : ℕ) → keptAfter 0 (keptFrom n) ≡ keptFrom n
 unfolding keptAfter keptFrom
 kept-none n =
-    same-table _ _ 8 (λ i g. rw (le-ltb (weightOf i) 0 (omega arith)) (getD-table (λ i. cond (ltb i n) 0 none) 8 i 0 g))
+    eight-table _ _ (λ i g. rw (le-ltb (weightOf i) 0 (omega arith)) (getD-table (λ i. cond (ltb i n) 0 none) 8 i 0 g))
 
 pub kept-line : (w j n : ℕ) → w ≡ weightOf j → keptAfter w (keptFrom n) ≡ keptFrom (min (suc j) n)
 unfolding keptAfter keptFrom
 kept-line w j n e =
-    same-table _ _ 8
+    eight-table _ _
     (λ i g.
     rw (getD-table (λ i. cond (ltb i n) 0 none) 8 i 0 g)
     (elim (decLt j i) [

@@ -14,11 +14,12 @@ use Rattle.paper.specs.declared.SetState.{SetState}
 use Rattle.paper.specs.declared.Line.{Line}
 use Rattle.paper.specs.Machines.{none, lineOf, hits, oneDown, victim, marked, nmruLine, lruStep, fifoStep, nmruStep, distinct, empty, legal}
 use Rattle.paper.specs.Ready.{Ready, stateOf, steppedOf}
-use Rattle.paper.specs.Shifts.{keptFrom, weightOf, weighed, keptAfter, movedBy, replacedBy, Bit, markedBy, lineFor}
+use Rattle.lines.specs.Lines.{weightOf, weighed, keptAfter, movedBy, replacedBy}
+use Rattle.paper.specs.Shifts.{keptFrom, Bit, markedBy, lineFor}
 use Rattle.paper.proofs.Says.{says-true, both}
 use Rattle.paper.proofs.States.{Offered, legal-few, says-legal, says-distinct, says-empty, line-at}
 use Rattle.paper.proofs.Bits.{victim-low}
-use Rattle.paper.proofs.LineLaws.{line-take, line-hit, hit-yes, hit-no, weighed-none, weighed-found, weight-bit, replaced-set, moved-pushed, kept-none, kept-line}
+use Rattle.paper.proofs.LineLaws.{weighed-walk, line-take, line-hit, hit-yes, hit-no, weighed-none, weighed-found, weight-bit, replaced-set, moved-pushed, kept-none, kept-line}
 
 -- what a step on the lines asks for, of a legal state
 module _ (p k : ℕ) (s : SetState) (l : legal p k s ≡ true) where
@@ -43,16 +44,16 @@ among k l b r n h =
     ]
 
 -- w is the sum of the weights of the lines that hold b: it tells whether b stands in one, and in which
-module _ (k : ℕ) (l : List ℕ) (n b w : ℕ) (r : Ready k l) (c : b ≢ none) (e : length l ≡ 8) (f : w ≡ weighed 0 l b) where
+module _ (k : ℕ) (l : List ℕ) (n b w : ℕ) (r : Ready k l) (c : b ≢ none) (e : length l ≡ 8) (f : w ≡ weighed l b) where
   fits : k ≤ length l
   fits = omega (arith, r .high)
 
   found : lineOf l b < 8 → (w ≡ weightOf (lineOf l b)) × (lineOf l b < k)
   found h =
-      (f ∙ weighed-found 0 (lineOf l b) l b (says-true (says-distinct l) (r .apart)) c (omega arith) (omega arith), among k l b r c (omega arith))
+      (f ∙ weighed-walk l b e ∙ weighed-found 0 (lineOf l b) l b (says-true (says-distinct l) (r .apart)) c (omega arith) (omega arith), among k l b r c (omega arith))
 
   none-found : 8 ≤ lineOf l b → w ≡ 0
-  none-found h = f ∙ weighed-none 0 l b (omega arith)
+  none-found h = f ∙ weighed-walk l b e ∙ weighed-none 0 l b (omega arith)
 
   hit-line : 0 < w → (w ≡ weightOf (lineOf l b)) × (lineOf l b < k)
   hit-line h = elim (decLt (lineOf l b) 8) [ yes y ↦ found y | no y ↦ absurd (omega (arith, none-found (omega arith))) ]

@@ -1,11 +1,11 @@
--- A step's parts on eight lines by value: which lines stay where they are when a block comes in, the sum that tells a block's line, and a block's set without a division.
-use Prim.Native.Nat.{ℕ, suc, _+_, _-_, _/_, _%_, _^_, _<_}
+-- A step's parts: which lines stay where they are when a block comes in, the line that an access goes to with the bits after it, and a block's set without a division.
+use Prim.Native.Nat.{ℕ, _+_, _-_, _/_, _%_, _^_, _<_}
 use mathlib.Core.Path.{_≡_}
 use mathlib.Core.Bool.{cond}
-use mathlib.Core.List.{List, [], _∷_}
+use mathlib.Core.List.{List}
 use lib.Dec.{eqb, ltb}
-use lib.ListN.{getD}
 use lib.Bits.{bitOr}
+use Rattle.lines.specs.Lines.{keptAfter}
 use Rattle.paper.specs.declared.SetState.{SetState}
 use Rattle.paper.specs.declared.Line.{Line}
 use Rattle.paper.specs.declared.Shift.{Shift}
@@ -16,27 +16,6 @@ use Rattle.paper.specs.Machines.{none, hits, nmruLine}
 -- The lines below n move, those from n on stay: 0 and 65,535.
 unfoldable pub keptFrom : ℕ → List ℕ
 keptFrom n = table (λ i. cond (ltb i n) 0 none) 8
-
--- A line's weight: 255 less the value of its bit. It fits a byte, and falls from line to line.
-unfoldable pub weightOf : ℕ → ℕ
-weightOf j = 255 - 2 ^ j
-
--- The sum of the weights of the lines from j on that hold b. Where b stands in one line alone it is that line's.
-unfoldable pub weighed : ℕ → List ℕ → ℕ → ℕ
-weighed j [] b = 0
-weighed j (x ∷ lines) b = cond (eqb x b) (weightOf j) 0 + weighed (suc j) lines b
-
--- The lines after the one with weight w stay too.
-unfoldable pub keptAfter : ℕ → List ℕ → List ℕ
-keptAfter w kept = table (λ i. cond (ltb (weightOf i) w) none (getD kept i 0)) 8
-
--- Each line takes what stood in the one before it, or stays.
-unfoldable pub movedBy : List ℕ → List ℕ → ℕ → List ℕ
-movedBy kept lines b = table (λ i. cond (eqb (getD kept i 0) 0) (getD (b ∷ lines) i 0) (getD lines i 0)) 8
-
--- b comes to the line whose bit has this value.
-unfoldable pub replacedBy : List ℕ → ℕ → ℕ → List ℕ
-replacedBy lines m b = table (λ i. cond (eqb m (2 ^ i)) b (getD lines i 0)) 8
 
 -- m is the value of a bit of the low k.
 pub record Bit (k m : ℕ) : Type 0 where

@@ -4,7 +4,6 @@ ghost use Rattle.paper.specs.Answers as Answers;
 
 mod cache;
 mod ceilings;
-mod eight;
 mod methods;
 mod policies;
 
@@ -23,7 +22,7 @@ pub use ceilings::MOST_FACTS;
 pub use ceilings::MOST_LOOPS;
 pub use ceilings::MOST_NODES;
 pub use ceilings::SETS_FROM;
-pub use eight::kept_from;
+pub use methods::kept_from;
 pub use methods::shift_of;
 pub use policies::FIFO;
 pub use policies::LRU;

@@ -5,17 +5,17 @@ ghost use Prim.Native.Nat.{_+_, _^_, _<_, _≤_};
 ghost use Rattle.paper.specs.Machines.{none, victim, lruStep, fifoStep, nmruStep};
 ghost use Rattle.paper.specs.NextBits.{nextBits};
 ghost use Rattle.paper.specs.Ready.{Ready, steppedOf};
-ghost use Rattle.paper.specs.Shifts.{keptFrom, weighed, shiftBy, shiftAt, Bit, markedBy, lineFor};
+ghost use Rattle.lines.specs.Lines.{weighed};
+ghost use Rattle.paper.specs.Shifts.{keptFrom, shiftBy, shiftAt, Bit, markedBy, lineFor};
 use crate::Block;
 use crate::Line;
 use crate::SetState;
 use crate::Shift;
 use crate::Stepped;
-use crate::eight::kept_after;
-use crate::eight::kept_from;
-use crate::eight::moved;
-use crate::eight::replaced;
-use crate::eight::weight;
+use lines::kept_after;
+use lines::moved;
+use lines::replaced;
+use lines::weight;
 
 // "A miss takes the lowest line whose bit is 0": that bit's value. At least one of the low k is.
 fn lowest_clear(bits: u8, k: usize) -> u16
@@ -56,6 +56,20 @@ fn stepped(lines: [u16; 8], bits: u8, hit: bool) -> Stepped
     }
 }
 
+// Made by a loop: as a list of eight comparisons it is made anew at each access.
+pub fn kept_from(n: usize) -> [u16; 8]
+    requires { ⌜ n ≤ 8 ⌝ }
+    ensures { λ r. ⌜ r ≡ keptFrom n ⌝ }
+{
+    let mut kept = [0u16; 8];
+    let mut i = n;
+    while i < 8 {
+        kept[i] = 65535;
+        i += 1;
+    }
+    kept
+}
+
 fn shift_at(weight: u16, beyond: [u16; 8]) -> Shift
     ensures { λ r. ⌜ r ≡ shiftBy beyond weight ⌝ }
 {
@@ -80,7 +94,7 @@ impl SetState {
     // What LRU moves for this block. The last shift is handed on while the blocks come from the same line, as they do in a loop: then a step need not wait for the search.
     pub fn shift(self, k: usize, block: Block, last: Shift) -> Shift
         requires { ⌜ last ≡ shiftAt k (last .weight) ⌝ }
-        ensures { λ r. ⌜ r ≡ shiftAt k (weighed 0 (self .lines) (block .0)) ⌝ }
+        ensures { λ r. ⌜ r ≡ shiftAt k (weighed (self .lines) (block .0)) ⌝ }
     {
         let lines = self.lines;
         let w = weight(lines, block.0);
@@ -94,7 +108,7 @@ impl SetState {
     pub fn lru(self, k: usize, block: Block, shift: Shift) -> Stepped
         requires { ⌜ Ready k (self .lines) ⌝ }
         requires { ⌜ block .0 ≢ none ⌝ }
-        requires { ⌜ shift ≡ shiftAt k (weighed 0 (self .lines) (block .0)) ⌝ }
+        requires { ⌜ shift ≡ shiftAt k (weighed (self .lines) (block .0)) ⌝ }
         ensures { λ r. ⌜ r ≡ lruStep k self (block .0) ⌝ }
     {
         let lines = self.lines;

@@ -6,7 +6,7 @@ use Prim.Native.Nat.{ℕ}
 use lib.ListN.{length}
 use borrow.Author.Needs.{needs}
 use Rattle.paper.specs.Ready.{steppedOf}
-use Rattle.paper.specs.Shifts.{movedBy}
+use Rattle.lines.specs.Lines.{movedBy}
 use Rattle.paper.proofs.MoveLaws.{fifo-hit, fifo-miss}
 use Rattle.paper.proofs.SetState.fifo.Statement.{statement}
 use Rattle.paper.proofs.SetState.fifo.Tie as tie

@@ -7,7 +7,7 @@ use lib.ListN.{length}
 use borrow.Author.Needs.{needs}
 use Rattle.paper.specs.declared.Shift.{Shift}
 use Rattle.paper.specs.Ready.{steppedOf}
-use Rattle.paper.specs.Shifts.{movedBy}
+use Rattle.lines.specs.Lines.{movedBy}
 use Rattle.paper.proofs.MoveLaws.{lru-took}
 use Rattle.paper.proofs.SetState.lru.Statement.{statement}
 use Rattle.paper.proofs.SetState.lru.Tie as tie

@@ -14,8 +14,8 @@ returns c =
 
 returns-2 : tie.Need-returns-2
 returns-2 c =
-    let s = c .before .before .before .before .before .before in
-    c .shift-at .ensures ∙ ap₂ shiftBy (ap (λ (t : Shift). t .beyond) (s .pre)) (c .before .before .before .before .weight .ensures)
+    let found = c .before .before .before .before in
+    c .shift-at .ensures ∙ ap₂ shiftBy (ap (λ (t : Shift). t .beyond) (found .before .before .pre)) (found .weight .ensures)
 
 pub shift-spec : {M : Type 1} → statement M
 shift-spec = tie.close (tie.spec (λ c κs. search needs) returns (λ c κs. search needs) returns-2)

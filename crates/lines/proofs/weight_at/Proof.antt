@@ -1,8 +1,8 @@
--- `paper::eight::weight_at` meets its contract.
+-- `lines::weight_at`: the comparison decides, and either way the result is within the weight.
 use native.Mathlib.Omega.{arith}
 use borrow.Author.Tests.{eq-eqb, ne-eqb}
-use Rattle.paper.proofs.eight.weight_at.Statement.{statement}
-use Rattle.paper.proofs.eight.weight_at.Tie as tie
+use Rattle.lines.proofs.weight_at.Statement.{statement}
+use Rattle.lines.proofs.weight_at.Tie as tie
 
 returns : tie.Need-returns
 returns c = (rw (eq-eqb _ _ (c .if1 .taken)), omega arith)

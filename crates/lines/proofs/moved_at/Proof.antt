@@ -1,7 +1,7 @@
--- `paper::eight::moved_at` meets its contract.
+-- `lines::moved_at`: the comparison decides.
 use borrow.Author.Tests.{eq-eqb, ne-eqb}
-use Rattle.paper.proofs.eight.moved_at.Statement.{statement}
-use Rattle.paper.proofs.eight.moved_at.Tie as tie
+use Rattle.lines.proofs.moved_at.Statement.{statement}
+use Rattle.lines.proofs.moved_at.Tie as tie
 
 returns : tie.Need-returns
 returns c = rw (eq-eqb _ _ (c .if1 .taken))

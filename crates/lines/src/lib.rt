@@ -1,10 +1,9 @@
-// The eight lines of a set by value: looked through, shifted, or one of them replaced. No branch: each of the eight is chosen by a comparison, so that the compiler can take all of them at once.
+// The eight lines of a set by value, on plain arrays: looked through, shifted, or one of them replaced. No branch: each of the eight is chosen by a comparison, so that the compiler can take all of them at once.
 ghost use mathlib.Core.Path.{_≡_};
 ghost use mathlib.Core.Bool.{cond};
 ghost use Prim.Native.Nat.{_≤_};
 ghost use lib.Dec.{eqb, ltb};
-ghost use Rattle.paper.specs.Machines.{none};
-ghost use Rattle.paper.specs.Shifts.{keptFrom, weighed, keptAfter, movedBy, replacedBy};
+ghost use Rattle.lines.specs.Lines.{weighed, keptAfter, movedBy, replacedBy};
 
 fn weight_at(x: u16, b: u16, weight: u16) -> u16
     ensures { λ r. ⌜ r ≡ cond (eqb x b) weight 0 ⌝ }
@@ -16,7 +15,7 @@ fn weight_at(x: u16, b: u16, weight: u16) -> u16
 // 255 less the value of line j's bit where b stands in line j alone, 0 where it stands in none: a sum of eight, which the compiler takes all at once. The weights fit a byte, fall from line to line,
 // and are no powers of two: with 2^j itself it goes from line to line.
 pub fn weight(lines: [u16; 8], b: u16) -> u16
-    ensures { λ r. ⌜ r ≡ weighed 0 lines b ⌝ }
+    ensures { λ r. ⌜ r ≡ weighed lines b ⌝ }
 {
     let low = weight_at(lines[4], b, 239)
         + (weight_at(lines[5], b, 223)
@@ -26,22 +25,8 @@ pub fn weight(lines: [u16; 8], b: u16) -> u16
             + (weight_at(lines[2], b, 251) + (weight_at(lines[3], b, 247) + low)))
 }
 
-// Made by a loop: as a list of eight comparisons it is made anew at each access.
-pub fn kept_from(n: usize) -> [u16; 8]
-    requires { ⌜ n ≤ 8 ⌝ }
-    ensures { λ r. ⌜ r ≡ keptFrom n ⌝ }
-{
-    let mut kept = [0u16; 8];
-    let mut i = n;
-    while i < 8 {
-        kept[i] = 65535;
-        i += 1;
-    }
-    kept
-}
-
 fn kept_at(least: u16, weight: u16, kept: u16) -> u16
-    ensures { λ r. ⌜ r ≡ cond (ltb least weight) none kept ⌝ }
+    ensures { λ r. ⌜ r ≡ cond (ltb least weight) 65535 kept ⌝ }
 {
     if least < weight { 65535 } else { kept }
 }

@@ -1,7 +1,7 @@
--- `paper::eight::replaced_at` meets its contract.
+-- `lines::replaced_at`: the comparison decides.
 use borrow.Author.Tests.{eq-eqb, ne-eqb}
-use Rattle.paper.proofs.eight.replaced_at.Statement.{statement}
-use Rattle.paper.proofs.eight.replaced_at.Tie as tie
+use Rattle.lines.proofs.replaced_at.Statement.{statement}
+use Rattle.lines.proofs.replaced_at.Tie as tie
 
 returns : tie.Need-returns
 returns c = rw (eq-eqb _ _ (c .if1 .taken))

@@ -1,12 +1,12 @@
--- `paper::eight::kept_from` meets its contract: the lines from n to i-1 are marked.
+-- `paper::methods::kept_from` meets its contract: the lines from n to i-1 are marked.
 use Prim.Native.Nat.{_-_, _≤_}
 use native.Mathlib.Omega.{arith}
 use mathlib.Core.Path.{_≡_, _∙_}
 use borrow.Author.Needs.{needs}
 use Rattle.paper.specs.Lists.{table}
 use Rattle.paper.proofs.LineLaws.{made, made-start, made-more, made-end}
-use Rattle.paper.proofs.eight.kept_from.Statement.{statement}
-use Rattle.paper.proofs.eight.kept_from.Tie as tie
+use Rattle.paper.proofs.methods.kept_from.Statement.{statement}
+use Rattle.paper.proofs.methods.kept_from.Tie as tie
 
 abbrev Inv-loop : tie.InvT-loop
 Inv-loop n kept₀ i₀ kept i = (n ≤ i) × (kept ≡ table (made n i) 8)

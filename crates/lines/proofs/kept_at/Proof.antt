@@ -1,7 +1,7 @@
--- `paper::eight::kept_at` meets its contract.
+-- `lines::kept_at`: the comparison decides.
 use borrow.Author.Tests.{lt-ltb, le-ltb}
-use Rattle.paper.proofs.eight.kept_at.Statement.{statement}
-use Rattle.paper.proofs.eight.kept_at.Tie as tie
+use Rattle.lines.proofs.kept_at.Statement.{statement}
+use Rattle.lines.proofs.kept_at.Tie as tie
 
 returns : tie.Need-returns
 returns c = rw (lt-ltb _ _ (c .if1 .taken))
