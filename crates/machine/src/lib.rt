@@ -6,10 +6,8 @@ ghost use Rattle.paper.specs.Machines as Machines;
 ghost use Rattle.paper.specs.Operations as Operations;
 
 mod legality;
-mod next;
 
 use legality::is_legal;
-pub use next::next_bits;
 use paper::Address;
 use paper::Block;
 use paper::BlockAnswer;
@@ -34,7 +32,7 @@ fn take_step(policy: u8, k: usize, state: SetState, block: Block) -> Stepped
     if policy == paper::FIFO {
         return state.fifo(k, block, paper::kept_from(k));
     }
-    let next = next_bits();
+    let next = next::next_bits();
     let line = state.line(k, block, 0);
     state.nmru(k, block, line, &next)
 }

@@ -70,6 +70,6 @@ pub fn patterns(out: &mut [u8; LENGTH])
     ensures { λ _. ⌜ now (out .exit) ≡ Patterns.patterns ⌝ }
     ensures { λ _. ⌜ length (now (out .exit)) ≡ 20736 ⌝ }
 {
-    let table = machine::next_bits();
+    let table = next::next_bits();
     lines(out, &table);
 }

@@ -84,7 +84,7 @@ fn nmru_run(k: usize, sets: u8, blocks: &[u16], marks: &mut [u8]) -> usize
     ensures { λ r. ⌜ Ran nmruPolicy k sets (now (blocks .entry)) (now (marks .entry)) r (now (marks .exit)) ⌝ }
 {
     let all = paper::sets_of(sets);
-    let next = machine::next_bits();
+    let next = next::next_bits();
     // The line's bit where a block last came in, less 1, as the guess at its line: a block stays in its line until it is lost. Blocks 1,024 apart share a place. From 1 to 128 the compiler sees that a guess is below 255.
     let mut guesses = [0u8; 1024];
     let mut states = [SetState {

@@ -1,10 +1,10 @@
--- `machine::next::next_bits` meets its contract: antt computes the rule at each of the 2,048 entries.
+-- `next::next_bits`: the rule is computed at each of the 2,048 entries and compared with the constant.
 use mathlib.Core.Path.{refl}
 use Rattle.paper.specs.Lists.{table}
 use Rattle.paper.specs.Machines.{marked}
 use Rattle.paper.specs.NextBits.{nextBits}
-use Rattle.machine.proofs.next.next_bits.Statement.{statement}
-use Rattle.machine.proofs.next.next_bits.Tie as tie
+use Rattle.next.proofs.next_bits.Statement.{statement}
+use Rattle.next.proofs.next_bits.Tie as tie
 
 returns : tie.Need-returns
 unfolding nextBits table marked
