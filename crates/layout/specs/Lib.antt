@@ -1,2 +1,3 @@
 pub mod Layouts
 pub mod Counted
+pub mod Packed

@@ -17,6 +17,7 @@ pub use bytes::u32_at;
 pub use facts::block_at;
 pub use facts::limit_at;
 pub use facts::number_at;
+pub use facts::same_row;
 pub use facts::scope_at;
 pub use facts::slot_at;
 use paper::MOST_EDGES;
