@@ -15,7 +15,9 @@ use Rattle.paper.specs.Facts.{held, lacks, breaks}
 use Rattle.evidence.specs.declared.Head.{Head}
 use Rattle.evidence.specs.Stands.{Stands, factOf}
 use Rattle.evidence.specs.RowParts.{missing, forgets, breaksAt}
+use Rattle.layout.specs.Packed.{Alike}
 use Rattle.paper.proofs.RowLaws.{held-set}
+use Rattle.evidence.proofs.Sets.{alike-holds}
 
 module _ (f : List ℕ) (trailer : Trailer) (h : Head) (p : Stands f trailer h) (x i j s m : ℕ) (sj : s ≡ rowPlace (h .place) j) (b : m ≡ rowAt f s .number) where
   -- "u fetches b: row v is not 9"
@@ -59,6 +61,13 @@ module _ (f : List ℕ) (trailer : Trailer) (h : Head) (p : Stands f trailer h) 
           -- "and also u's block where u fetches one of b's set"
           pub breaks-lost : (c : Bool) → c ≡ forgets (caseOf f trailer) (factOf f h) x (rowAt f s) → c ≡ true → true ≡ breaksAt f trailer h x i j
           breaks-lost c u z = sym (parts ∙ rw (sym u ∙ z) (or-true (some (missing (rowAt f r) (rowAt f s)) (held (rowAt f r)))))
+
+          -- row v is row u: of its blocks none can be lacking
+          pub breaks-same :
+              (c : Bool) → Alike (rowAt f r) (rowAt f s) → n < 8 → c ≡ forgets (caseOf f trailer) (factOf f h) x (rowAt f s) → c ≡ breaksAt f trailer h x i j
+          breaks-same c y o u =
+              let e : held (rowAt f s) ≡ n = held-set (rowAt f s) (omega arith) ∙ sym (y .number) ∙ sym a in
+              u ∙ sym (parts ∙ rw (held-set (rowAt f r) (omega arith) ∙ sym a, alike-holds (rowAt f r) (rowAt f s) n (omega arith) e y) refl)
 
           -- "that holds row u's blocks"
           pub breaks-drops :

@@ -8,16 +8,18 @@ use mathlib.Core.Bool.{Bool, true, false, not}
 use mathlib.Core.Logic.{_≢_}
 use mathlib.Core.List.{List}
 use borrow.Author.Count.{below-more}
-use borrow.Author.Tests.{eq-eqb, ne-eqb}
+use borrow.Author.Tests.{eq-eqb, ne-eqb, not-true, not-false}
+use lib.Dec.{eqb}
 use Rattle.paper.specs.Lists.{some}
 use Rattle.paper.specs.declared.Trailer.{Trailer}
 use Rattle.paper.specs.Machines.{none}
 use Rattle.paper.specs.Cases.{Row, sameSet}
 use Rattle.paper.specs.Files.{caseOf}
 use Rattle.paper.specs.Facts.{held, holds}
-use Rattle.paper.proofs.Least.{Passed, passed-start, passed-more, some-found, some-end}
+use Rattle.paper.proofs.Least.{Passed, passed-start, passed-more, some-found, some-none, some-end}
 use Rattle.paper.proofs.Says.{says-false, says-is}
 use Rattle.paper.proofs.RowLaws.{holds-says}
+use Rattle.layout.specs.Packed.{Alike}
 use Rattle.evidence.specs.declared.Head.{Head}
 use Rattle.evidence.specs.Stands.{Stands, factOf}
 use Rattle.evidence.specs.RowParts.{missing, forgets}
@@ -30,14 +32,24 @@ module _ (f : List ℕ) (trailer : Trailer) (h : Head) (a : Stands f trailer h) 
   unfolding forgets
   forgets-none e = rw (eq-eqb x none e) refl
 
-  module _ (q : x ≢ none) (y : ℕ) (o : y ≡ x % trailer .sets) where
-    pub forgets-other : y ≢ h .home → false ≡ forgets (caseOf f trailer) (factOf f h) x s
+  module _ (q : x ≢ none) (z : Bool) (o : z ≡ not (eqb (x % trailer .sets) (h .home))) where
+    pub forgets-other : z ≡ true → false ≡ forgets (caseOf f trailer) (factOf f h) x s
     unfolding forgets sameSet caseOf
-    forgets-other w = rw (ne-eqb x none q, ne-eqb _ _ (λ z. w (o ∙ z ∙ sym (home-is f trailer h a)))) refl
+    forgets-other w =
+        let e : eqb (x % trailer .sets) (h .home) ≡ false = not-true _ (sym o ∙ w) in
+        rw (ne-eqb x none q, ← home-is f trailer h a, e) refl
 
-    pub forgets-same : (b : Bool) → y ≡ h .home → b ≡ holds s x → not b ≡ forgets (caseOf f trailer) (factOf f h) x s
+    pub forgets-same : (b : Bool) → z ≡ false → b ≡ holds s x → not b ≡ forgets (caseOf f trailer) (factOf f h) x s
     unfolding forgets sameSet caseOf
-    forgets-same b w e = rw (ne-eqb x none q, eq-eqb _ _ (sym o ∙ w ∙ home-is f trailer h a), ← e) refl
+    forgets-same b w e =
+        let u : eqb (x % trailer .sets) (h .home) ≡ true = not-false _ (sym o ∙ w) in
+        rw (ne-eqb x none q, ← home-is f trailer h a, u, ← e) refl
+
+-- a row that is the same holds the same blocks
+pub alike-holds : (r s : Row) (n : ℕ) → n ≤ 7 → held s ≡ n → Alike r s → some (missing r s) n ≡ false
+unfolding missing
+alike-holds r s n l e a =
+    some-none (missing r s) n (λ k q. ap not (says-is (holds-says s (r .slot k)) (k, omega arith, sym (a .slot k (omega arith)))))
 
 -- "strictly rising"
 abbrev Rises : Row → ℕ → Type 0

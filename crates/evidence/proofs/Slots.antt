@@ -52,10 +52,10 @@ set-held s = held-set _ (omega (arith, s .number, s .few)) ∙ sym (s .number)
 
 module _ (f : List ℕ) (trailer : Trailer) (h : Head) (r : Row) (k x : ℕ) (q : x ≡ r .slot k) where
   -- a block of a set
-  pub block-test : (n low y : ℕ) → Stands f trailer h → held r ≡ n → k < n → low ≡ lowest r k → y ≡ x % trailer .sets →
-      (eqb x none || (eqb x (h .block) || (not (eqb y (h .home)) || ltb x low))) ≡ badSlot (caseOf f trailer) (factOf f h) r k
+  pub block-test : (n low : ℕ) (z : Bool) → Stands f trailer h → held r ≡ n → k < n → low ≡ lowest r k → z ≡ not (eqb (x % trailer .sets) (h .home)) →
+      (eqb x none || (eqb x (h .block) || (z || ltb x low))) ≡ badSlot (caseOf f trailer) (factOf f h) r k
   unfolding badSlot sameSet caseOf
-  block-test n low y s e l w z = rw (e, lt-ltb k n l, w, below-lowest r k x, z, s .home, s .block, q) refl
+  block-test n low z s e l w o = rw (e, lt-ltb k n l, w, below-lowest r k x, o, s .home, s .block, q) refl
 
 module _ (n : ℕ) (r : Row) where
   pub unfree-before : (k : ℕ) → k < n → unfree n r k ≡ false

@@ -5,6 +5,8 @@ use mathlib.Core.Bool.{false}
 use mathlib.Core.List.{List}
 use Rattle.paper.specs.declared.Trailer.{Trailer}
 use Rattle.paper.specs.declared.Loop.{Loop}
+use Rattle.paper.specs.declared.Sets.{Sets}
+use Rattle.paper.specs.Shifts.{setsOf}
 use Rattle.paper.specs.Cases.{Fact, rangeOf}
 use Rattle.paper.specs.Files.{endAt, rowPlace, loopAt, factAt, caseOf}
 use Rattle.paper.specs.Facts.{badRowAt}
@@ -31,6 +33,13 @@ pub record Stands (f : List ℕ) (trailer : Trailer) (h : Head) : Type 0 where
   pub home : h .home ≡ h .block % trailer .sets
   pub rises : h .first ≤ h .last
   pub within : h .last < trailer .nodes
+
+-- The trailer's number of sets, made ready for whoever asks often where a block lives.
+pub record Ready (trailer : Trailer) (sets : Sets) : Type 0 where
+  pub some : 0 < sets .count
+  pub few : sets .count ≤ 64
+  pub made : sets ≡ setsOf (sets .count)
+  pub count : sets .count ≡ trailer .sets
 
 -- Rule 15 is passed: its rows end before the trailer.
 pub record Whole (f : List ℕ) (h : Head) : Type 0 where

@@ -1,16 +1,19 @@
 // Rule 16: the rows of a fact, where they stand and what they may be.
 ghost use mathlib.Core.Path.{_≡_};
-ghost use Prim.Native.Nat.{_+_, _<_, _≤_};
+ghost use mathlib.Core.Bool.{not};
+ghost use Prim.Native.Nat.{_+_, _%_, _<_, _≤_};
+ghost use lib.Dec.{eqb};
 ghost use lib.ListN.{length};
 ghost use Rattle.paper.specs.Lists.{some};
 ghost use Rattle.paper.specs.Files as Files;
 ghost use Rattle.paper.specs.Facts as Facts;
 ghost use Rattle.paper.specs.Records.{rowSize};
 ghost use Rattle.paper.specs.Known.{Laid};
-ghost use Rattle.evidence.specs.Stands.{factOf, nodesOf, Stands, Whole};
+ghost use Rattle.evidence.specs.Stands.{factOf, nodesOf, Stands, Ready, Whole};
 ghost use Rattle.evidence.specs.RowParts.{SetAt, unfree};
 use crate::Head;
 use crate::nodes_of;
+use paper::Sets;
 use paper::Trailer;
 
 // Where the row of the scope's node j stands.
@@ -23,9 +26,17 @@ pub fn row_at(file: &[u8], h: Head, j: u16) -> usize
     layout::row_place(file, h.place, j)
 }
 
+// "block b lives in set b mod S": x lives in another set than the fact's block. (The trailer is handed on for the contract.)
+pub fn elsewhere(trailer: Trailer, sets: Sets, h: Head, x: u16) -> bool
+    requires { ⌜ Ready trailer sets ⌝ }
+    ensures { λ r. ⌜ r ≡ not (eqb (x % trailer .sets) (h .home)) ⌝ }
+{
+    paper::home_in(x, sets) != h.home as usize
+}
+
 // "strictly rising, each of b's set, none equal to b or none": one of the n blocks of the row at `at` is not so.
-fn bad_blocks(file: &[u8], trailer: Trailer, h: Head, at: usize, n: u16) -> bool
-    requires { ⌜ Laid (now file) trailer ⌝ }
+fn bad_blocks(file: &[u8], trailer: Trailer, sets: Sets, h: Head, at: usize, n: u16) -> bool
+    requires { ⌜ Ready trailer sets ⌝ }
     requires { ⌜ Stands (now file) trailer h ⌝ }
     requires { ⌜ SetAt (now file) at n ⌝ }
     ensures { λ r. ⌜ r ≡ some (Facts.badSlot (Files.caseOf (now (file .entry)) trailer) (factOf (now (file .entry)) h) (Files.rowAt (now (file .entry)) at)) n ⌝ }
@@ -34,9 +45,7 @@ fn bad_blocks(file: &[u8], trailer: Trailer, h: Head, at: usize, n: u16) -> bool
     let mut i: u16 = 0;
     while i < n {
         let x = layout::slot_at(file, at, i);
-        if (x == 65535)
-            | ((x == h.block) | ((paper::home(x, trailer.sets) != h.home) | (x < low)))
-        {
+        if (x == 65535) | ((x == h.block) | (elsewhere(trailer, sets, h, x) | (x < low))) {
             return true;
         }
         low = x + 1;
@@ -61,8 +70,8 @@ fn bad_rest(file: &[u8], at: usize, n: u16) -> bool
     false
 }
 
-fn bad_row(file: &[u8], trailer: Trailer, h: Head, j: u16) -> bool
-    requires { ⌜ Laid (now file) trailer ⌝ }
+fn bad_row(file: &[u8], trailer: Trailer, sets: Sets, h: Head, j: u16) -> bool
+    requires { ⌜ Ready trailer sets ⌝ }
     requires { ⌜ Stands (now file) trailer h ⌝ }
     requires { ⌜ Whole (now file) h ⌝ }
     requires { ⌜ j < nodesOf h ⌝ }
@@ -79,7 +88,7 @@ fn bad_row(file: &[u8], trailer: Trailer, h: Head, j: u16) -> bool
     if h.limit <= n {
         return true;
     }
-    if bad_blocks(file, trailer, h, at, n) {
+    if bad_blocks(file, trailer, sets, h, at, n) {
         return true;
     }
     bad_rest(file, at, n)
@@ -92,10 +101,11 @@ pub fn bad_rows(file: &[u8], trailer: Trailer, h: Head) -> bool
     requires { ⌜ Whole (now file) h ⌝ }
     ensures { λ r. ⌜ r ≡ some (Facts.badRowAt (Files.caseOf (now (file .entry)) trailer) (factOf (now (file .entry)) h)) (nodesOf h) ⌝ }
 {
+    let sets = paper::sets_of(trailer.sets);
     let n = nodes_of(h);
     let mut j: u16 = 0;
     while j < n {
-        if bad_row(file, trailer, h, j) {
+        if bad_row(file, trailer, sets, h, j) {
             return true;
         }
         j += 1;

@@ -5,11 +5,13 @@ ghost use Rattle.paper.specs.Lists.{some};
 ghost use Rattle.paper.specs.Files as Files;
 ghost use Rattle.paper.specs.Facts as Facts;
 ghost use Rattle.paper.specs.Known.{Laid, Shaped};
-ghost use Rattle.evidence.specs.Stands.{factOf, nodesOf, Stands, Whole, SoundRows};
+ghost use Rattle.evidence.specs.Stands.{factOf, nodesOf, Stands, Ready, Whole, SoundRows};
 ghost use Rattle.evidence.specs.Edges.{Splits, From};
 ghost use Rattle.evidence.specs.RowParts.{SetAt, RisingAt, missing, forgets, breaksAt};
 use crate::Head;
+use crate::rows::elsewhere;
 use crate::rows::row_at;
+use paper::Sets;
 use paper::Trailer;
 
 // The row at `at`, a set of n blocks, holds x.
@@ -53,8 +55,8 @@ fn drops(file: &[u8], r: usize, n: u16, s: usize, m: u16) -> bool
 }
 
 // Node u's block x is not none, of b's set, and the set at s lacks it.
-fn lost(file: &[u8], trailer: Trailer, h: Head, x: u16, s: usize, m: u16) -> bool
-    requires { ⌜ Laid (now file) trailer ⌝ }
+fn lost(file: &[u8], trailer: Trailer, sets: Sets, h: Head, x: u16, s: usize, m: u16) -> bool
+    requires { ⌜ Ready trailer sets ⌝ }
     requires { ⌜ Stands (now file) trailer h ⌝ }
     requires { ⌜ SetAt (now file) s m ⌝ }
     ensures { λ b. ⌜ b ≡ forgets (Files.caseOf (now (file .entry)) trailer) (factOf (now (file .entry)) h) x (Files.rowAt (now (file .entry)) s) ⌝ }
@@ -62,15 +64,15 @@ fn lost(file: &[u8], trailer: Trailer, h: Head, x: u16, s: usize, m: u16) -> boo
     if x == 65535 {
         return false;
     }
-    if paper::home(x, trailer.sets) != h.home {
+    if elsewhere(trailer, sets, h, x) {
         return false;
     }
     !holds(file, s, m, x)
 }
 
 // 17, for an edge from the scope's node i, which fetches x, to its node j.
-fn breaks(file: &[u8], trailer: Trailer, h: Head, x: u16, i: u16, j: u16) -> bool
-    requires { ⌜ Laid (now file) trailer ⌝ }
+fn breaks(file: &[u8], trailer: Trailer, sets: Sets, h: Head, x: u16, i: u16, j: u16) -> bool
+    requires { ⌜ Ready trailer sets ⌝ }
     requires { ⌜ Stands (now file) trailer h ⌝ }
     requires { ⌜ Whole (now file) h ⌝ }
     requires { ⌜ SoundRows (now file) trailer h ⌝ }
@@ -93,7 +95,10 @@ fn breaks(file: &[u8], trailer: Trailer, h: Head, x: u16, i: u16, j: u16) -> boo
     if 8 <= m {
         return m != 8;
     }
-    if lost(file, trailer, h, x, s, m) {
+    if layout::same_row(file, r, s) {
+        return lost(file, trailer, sets, h, x, s, m);
+    }
+    if lost(file, trailer, sets, h, x, s, m) {
         return true;
     }
     drops(file, r, n, s, m)
@@ -119,8 +124,9 @@ fn first_edge(file: &[u8], trailer: Trailer, v: u16) -> u16
 }
 
 // 17, for edge i, which comes from the scope's node u.
-fn bad_step(file: &[u8], trailer: Trailer, h: Head, i: u16, u: u16) -> bool
+fn bad_step(file: &[u8], trailer: Trailer, sets: Sets, h: Head, i: u16, u: u16) -> bool
     requires { ⌜ Laid (now file) trailer ⌝ }
+    requires { ⌜ Ready trailer sets ⌝ }
     requires { ⌜ Stands (now file) trailer h ⌝ }
     requires { ⌜ Whole (now file) h ⌝ }
     requires { ⌜ SoundRows (now file) trailer h ⌝ }
@@ -134,6 +140,7 @@ fn bad_step(file: &[u8], trailer: Trailer, h: Head, i: u16, u: u16) -> bool
     breaks(
         file,
         trailer,
+        sets,
         h,
         layout::node_at(file, trailer, u),
         u - h.first,
@@ -150,13 +157,14 @@ pub fn bad_steps(file: &[u8], trailer: Trailer, h: Head) -> bool
     requires { ⌜ SoundRows (now file) trailer h ⌝ }
     ensures { λ b. ⌜ b ≡ some (Facts.badStepAt (Files.caseOf (now (file .entry)) trailer) (factOf (now (file .entry)) h)) (trailer .edges) ⌝ }
 {
+    let sets = paper::sets_of(trailer.sets);
     let mut i = first_edge(file, trailer, h.first);
     while i < trailer.edges {
         let u = layout::from_at(file, trailer, i);
         if h.last < u {
             return false;
         }
-        if bad_step(file, trailer, h, i, u) {
+        if bad_step(file, trailer, sets, h, i, u) {
             return true;
         }
         i += 1;

@@ -14,32 +14,32 @@ use Rattle.evidence.proofs.rows.bad_blocks.Statement.{statement}
 use Rattle.evidence.proofs.rows.bad_blocks.Tie as tie
 
 abbrev Inv-loop : tie.InvT-loop
-Inv-loop file trailer h at n low₀ i₀ low i = Passed (badSlot (caseOf file trailer) (factOf file h) (rowAt file at)) n i × (low ≡ lowest (rowAt file at) i)
+Inv-loop file trailer sets h at n low₀ i₀ low i = Passed (badSlot (caseOf file trailer) (factOf file h) (rowAt file at)) n i × (low ≡ lowest (rowAt file at) i)
 
 abbrev μ-loop : tie.MeasureT-loop
-μ-loop file trailer h at n low₀ i₀ low i = n - i
+μ-loop file trailer sets h at n low₀ i₀ low i = n - i
 
 returns : tie.Need-returns Inv-loop μ-loop
 returns c =
-    let a = c .before .before .before .before in
+    let a = c .before .before .before in
     let s = a .before .before .before .before .pre in
     let i = a .before .before .before .before .args in
     some-found _ _ _ (a .before .before .loop .inv .0) _ (a .before .loop-test .taken)
-    (block-test (i .file .now) (i .trailer) (i .h) _ _ _ (a .slot-at .ensures) _ _ _ (s .1 .0) (set-held (s .1 .1)) (a .before .loop-test .taken) (a .before .before .loop .inv .1) (c .before .before .home .ensures .0))
+    (block-test (i .file .now) (i .trailer) (i .h) _ _ _ (a .slot-at .ensures) _ _ _ (s .1 .0) (set-held (s .1 .1)) (a .before .loop-test .taken) (a .before .before .loop .inv .1) (c .before .elsewhere .ensures))
     (c .if1 .taken)
 
 add-low : tie.Need-add-low Inv-loop μ-loop
 add-low c =
-    let x = c .before .before .before .before .slot-at .result in
+    let x = c .before .before .before .slot-at .result in
     omega (arith, eqb-false x 65535 (neither (eqb x 65535) _ (c .if1 .left) .0))
 
 loop-again : tie.Need-loop-again Inv-loop μ-loop
 loop-again c =
-    let a = c .before .before .before .before in
+    let a = c .before .before .before in
     let s = a .before .before .before .before .pre in
     let i = a .before .before .before .before .args in (
       passed-more _ _ _ _ (a .before .before .loop .inv .0) (a .before .loop-test .taken)
-          (block-test (i .file .now) (i .trailer) (i .h) _ _ _ (a .slot-at .ensures) _ _ _ (s .1 .0) (set-held (s .1 .1)) (a .before .loop-test .taken) (a .before .before .loop .inv .1) (c .before .before .home .ensures .0))
+          (block-test (i .file .now) (i .trailer) (i .h) _ _ _ (a .slot-at .ensures) _ _ _ (s .1 .0) (set-held (s .1 .1)) (a .before .loop-test .taken) (a .before .before .loop .inv .1) (c .before .elsewhere .ensures))
           (c .if1 .left),
       lowest-more _ _ _ (a .slot-at .ensures),
     )

@@ -4,14 +4,20 @@ use Rattle.paper.specs.Files.{caseOf}
 use Rattle.paper.specs.Facts.{badRowAt}
 use Rattle.paper.proofs.Least.{Passed, passed-start, passed-more, some-found, some-end}
 use Rattle.evidence.specs.Stands.{factOf}
+use Rattle.evidence.proofs.Scopes.{made-ready}
 use Rattle.evidence.proofs.rows.bad_rows.Statement.{statement}
 use Rattle.evidence.proofs.rows.bad_rows.Tie as tie
 
 abbrev Inv-loop : tie.InvT-loop
-Inv-loop file trailer h n j₀ j = Passed (badRowAt (caseOf file trailer) (factOf file h)) n j
+Inv-loop file trailer h sets n j₀ j = Passed (badRowAt (caseOf file trailer) (factOf file h)) n j
 
 abbrev μ-loop : tie.MeasureT-loop
-μ-loop file trailer h n j₀ j = n - j
+μ-loop file trailer h sets n j₀ j = n - j
+
+bad-row-requires : tie.Need-bad-row-requires Inv-loop μ-loop
+bad-row-requires c κs =
+    let s = c .before .before .before in
+    (made-ready _ _ _ (s .before .before .pre .0) (s .sets-of .ensures), (search needs, (search needs, search needs)))
 
 returns : tie.Need-returns Inv-loop μ-loop
 returns c =
@@ -31,9 +37,9 @@ bad-rows-spec =
     (tie.spec
     Inv-loop
     μ-loop
-    (λ c κs. search needs)
+    (λ c κs. search needs) (λ c κs. search needs)
     (λ c. passed-start _ _)
-    (λ c κs. search needs)
+    bad-row-requires
     returns
     (λ c. search needs) (λ c. search needs)
     loop-again

@@ -7,7 +7,7 @@ use Rattle.evidence.proofs.steps.bad_step.Tie as tie
 returns : tie.Need-returns
 returns c =
     let a = c .before .before .before in
-    let p = a .before .before .pre .1 in
+    let p = a .before .before .pre .1 .1 in
     step-leaves _ _ _ (p .0) _ _ _ (p .1 .1 .1) (a .to-at .ensures) (c .if1 .taken)
 
 sub-breaks-2 : tie.Need-sub-breaks-2
@@ -23,13 +23,13 @@ breaks-requires c κs =
     let a = o .before .before .before in
     let h = a .before .before .args .h in
     let v = in-range (h .first) (h .last) (a .to-at .result) (o .if1 .left) in
-    (search needs, (search needs, (search needs, (search needs, omega (arith, v, a .before .before .pre .1 .1 .1 .1)))))
+    (search needs, (search needs, (search needs, (search needs, omega (arith, v, a .before .before .pre .1 .1 .1 .1 .1)))))
 
 returns-2 : tie.Need-returns-2
 returns-2 c =
     let o = c .before .before .before .before in
     let a = o .before .before .before in
-    let p = a .before .before .pre .1 in
+    let p = a .before .before .pre .1 .1 in
     step-in _ _ _ (p .0) _ _ _ (p .1 .1 .1) (a .to-at .ensures) _ _ (o .if1 .left)
     (c .before .before .before .node-at .ensures) (c .breaks .ensures)
 

@@ -2,23 +2,25 @@ use Prim.Native.Nat.{_-_}
 use native.Mathlib.Omega.{arith}
 use borrow.Author.Needs.{needs}
 use Rattle.paper.proofs.Least.{some-found, some-end}
+use Rattle.evidence.proofs.Scopes.{made-ready}
 use Rattle.evidence.proofs.OneStep.{Reached, reached-start, reached-more, reached-after}
 use Rattle.evidence.proofs.steps.bad_steps.Statement.{statement}
 use Rattle.evidence.proofs.steps.bad_steps.Tie as tie
 
 abbrev Inv-loop : tie.InvT-loop
-Inv-loop file trailer h i₀ i = Reached file trailer h i
+Inv-loop file trailer h sets i₀ i = Reached file trailer h i
 
 abbrev μ-loop : tie.MeasureT-loop
-μ-loop file trailer h i₀ i = trailer .edges - i
+μ-loop file trailer h sets i₀ i = trailer .edges - i
 
 loop-holds : tie.Need-loop-holds Inv-loop μ-loop
-loop-holds c = reached-start _ _ _ (c .before .before .pre .1 .1 .0) _ (c .first-edge .ensures)
+loop-holds c = reached-start _ _ _ (c .before .before .before .pre .1 .1 .0) _ (c .first-edge .ensures)
 
 returns : tie.Need-returns Inv-loop μ-loop
 returns c =
     let a = c .before .before .before in
-    let p = a .before .before .before .before .before .pre .1 in
+    let s = a .before .before .before .before in
+    let p = s .before .before .pre .1 in
     reached-after _ _ _ (p .1 .0) _ (a .before .before .loop .inv) (a .if1 .taken) (p .0) _ (c .before .before .from-at .ensures) (c .if2 .taken)
 
 bad-step-requires : tie.Need-bad-step-requires Inv-loop μ-loop
@@ -26,20 +28,25 @@ bad-step-requires c κs =
     let b = c .before .before in
     let a = b .before in
     let w = a .before .before .loop .inv in
-    let p = a .before .before .before .before .before .pre in (
+    let s = a .before .before .before .before in
+    let p = s .before .before .pre in
+    let ready = made-ready _ _ _ (p .0) (s .sets-of .ensures) in (
       p .0,
       (
-        p .1 .1 .0,
+        ready,
         (
-          p .1 .1 .1 .0,
+          p .1 .1 .0,
           (
-            p .1 .1 .1 .1,
-            record {
-              there = a .if1 .taken;
-              from-is = b .from-at .ensures;
-              low = omega (arith, w .above _ (omega arith) (a .if1 .taken), b .from-at .ensures);
-              high = c .if2 .left;
-            },
+            p .1 .1 .1 .0,
+            (
+              p .1 .1 .1 .1,
+              record {
+                there = a .if1 .taken;
+                from-is = b .from-at .ensures;
+                low = omega (arith, w .above _ (omega arith) (a .if1 .taken), b .from-at .ensures);
+                high = c .if2 .left;
+              },
+            ),
           ),
         ),
       ),
@@ -53,7 +60,8 @@ returns-2 c =
 loop-again : tie.Need-loop-again Inv-loop μ-loop
 loop-again c =
     let a = c .before .before .before .before .before in
-    reached-more _ _ _ (a .before .before .before .before .before .pre .1 .1 .0) _ (a .before .before .loop .inv) (a .if1 .taken) _ (c .before .bad-step .ensures) (c .if3 .left)
+    let s = a .before .before .before .before in
+    reached-more _ _ _ (s .before .before .pre .1 .1 .0) _ (a .before .before .loop .inv) (a .if1 .taken) _ (c .before .bad-step .ensures) (c .if3 .left)
 
 returns-3 : tie.Need-returns-3 Inv-loop μ-loop
 returns-3 c = some-end _ _ _ (c .before .before .loop .inv .passed) (c .if1 .left)
@@ -64,7 +72,7 @@ bad-steps-spec =
     (tie.spec
     Inv-loop
     μ-loop
-    (λ c κs. search needs)
+    (λ c κs. search needs) (λ c κs. search needs)
     loop-holds
     (λ c κs. search needs)
     returns

@@ -1,7 +1,7 @@
 use native.Mathlib.Omega.{arith}
 use borrow.Author.Needs.{needs}
 use Rattle.evidence.proofs.OneRow.{number-at, rising-at}
-use Rattle.evidence.proofs.OneEdge.{breaks-b, breaks-not-since, breaks-many, breaks-no-set, breaks-lost, breaks-drops}
+use Rattle.evidence.proofs.OneEdge.{breaks-b, breaks-not-since, breaks-many, breaks-no-set, breaks-same, breaks-lost, breaks-drops}
 use Rattle.evidence.proofs.steps.breaks.Statement.{statement}
 use Rattle.evidence.proofs.steps.breaks.Tie as tie
 
@@ -36,16 +36,34 @@ returns-4 c =
 
 returns-5 : tie.Need-returns-5
 returns-5 c =
-    let b = c .before .before .before .before .before in
+    let e = c .before .before in
+    let t3 = e .before .before in
+    let t2 = t3 .before in
+    let b = t2 .before in
+    let d = b .before .before in
+    let a = d .before .before in
+    let p = a .before .before .before .pre .1 in
+    let l = number-at _ _ _ (p .1 .1 .0) _ _ _ (p .1 .1 .1 .0) (b .before .row-at2 .ensures .0) (b .number-at2 .ensures) in
+    breaks-same _ _ _ (p .0) _ _ _ _ _ (a .before .row-at .ensures .0) (a .number-at .ensures) (d .if1 .left) _ _
+    (b .before .row-at2 .ensures .0) (b .number-at2 .ensures) (t2 .if2 .left) (t3 .if3 .left) (omega arith) _
+    (e .same-row .ensures (c .before .if5 .taken)) (omega (arith, t2 .if2 .left, t3 .if3 .left)) (c .lost .ensures)
+
+returns-6 : tie.Need-returns-6
+returns-6 c =
+    let e = c .before .before .before in
+    let t3 = e .before .before in
+    let t2 = t3 .before in
+    let b = t2 .before in
     let d = b .before .before in
     let a = d .before .before in
     breaks-lost _ _ _ (a .before .before .before .pre .1 .0) _ _ _ _ _ (a .before .row-at .ensures .0) (a .number-at .ensures) (d .if1 .left) _ _
-    (b .before .row-at2 .ensures .0) (b .number-at2 .ensures) (c .before .before .before .before .if2 .left) (c .before .before .before .if3 .left) (omega arith) _
-    (c .before .lost .ensures) (c .if5 .taken)
+    (b .before .row-at2 .ensures .0) (b .number-at2 .ensures) (t2 .if2 .left) (t3 .if3 .left) (omega arith) _
+    (c .before .lost2 .ensures) (c .if6 .taken)
 
 drops-requires : tie.Need-drops-requires
 drops-requires c κs =
-    let b = c .before .before .before .before .before in
+    let e = c .before .before .before in
+    let b = e .before .before .before .before in
     let d = b .before .before in
     let a = d .before .before in
     let p = a .before .before .before .pre .1 .1 .1 in
@@ -54,9 +72,10 @@ drops-requires c κs =
       rising-at _ _ _ (p .0) _ _ _ (p .1 .1) (a .before .row-at .ensures .0) (a .number-at .ensures) (omega arith) (a .before .row-at .ensures .1),
     )
 
-returns-6 : tie.Need-returns-6
-returns-6 c =
-    let t3 = c .before .before .before .before in
+returns-7 : tie.Need-returns-7
+returns-7 c =
+    let e = c .before .before .before .before in
+    let t3 = e .before .before in
     let t2 = t3 .before in
     let b = t2 .before in
     let d = b .before .before in
@@ -65,7 +84,7 @@ returns-6 c =
     let l = number-at _ _ _ (p .1 .1 .0) _ _ _ (p .1 .1 .1 .0) (b .before .row-at2 .ensures .0) (b .number-at2 .ensures) in
     breaks-drops _ _ _ (p .0) _ _ _ _ _ (a .before .row-at .ensures .0) (a .number-at .ensures) (d .if1 .left) _ _
     (b .before .row-at2 .ensures .0) (b .number-at2 .ensures) (t2 .if2 .left) (t3 .if3 .left) (omega arith) _ _
-    (c .before .before .lost .ensures) (c .before .if5 .left)
+    (c .before .before .lost2 .ensures) (c .before .if6 .left)
     (omega (arith, t2 .if2 .left, t3 .if3 .left)) (c .drops .ensures)
 
 pub breaks-spec : {M : Type 1} → statement M
@@ -78,7 +97,9 @@ breaks-spec =
     returns-2
     returns-3
     returns-4
-    (λ c κs. search needs)
+    (λ c κs. search needs) (λ c κs. search needs)
     returns-5
+    (λ c κs. search needs)
+    returns-6
     drops-requires
-    returns-6)
+    returns-7)
