@@ -1,3 +1,4 @@
+-- `evidence::rows::bad_blocks`: the first slot that fails stops the loop; before it none did, and `low` is the least that the next may be.
 use Prim.Native.Nat.{_-_}
 use mathlib.Core.Path.{_≡_}
 use native.Mathlib.Omega.{arith}

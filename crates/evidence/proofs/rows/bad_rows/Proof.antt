@@ -1,3 +1,4 @@
+-- `evidence::rows::bad_rows`: the first bad row stops the loop; before it none was bad.
 use Prim.Native.Nat.{_-_}
 use borrow.Author.Needs.{needs}
 use Rattle.paper.specs.Files.{caseOf}

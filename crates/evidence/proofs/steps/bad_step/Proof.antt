@@ -1,3 +1,4 @@
+-- `evidence::steps::bad_step`: an edge that leaves the scope breaks nothing; for one that stays the rule is `breaks`.
 use native.Mathlib.Omega.{arith}
 use borrow.Author.Needs.{needs}
 use Rattle.evidence.proofs.OneStep.{in-range, step-leaves, step-in}

@@ -1,3 +1,4 @@
+-- `evidence::steps::bad_steps`: edges before the first one looked at come from nodes before the scope, those after the last from nodes after it.
 use Prim.Native.Nat.{_-_}
 use native.Mathlib.Omega.{arith}
 use borrow.Author.Needs.{needs}

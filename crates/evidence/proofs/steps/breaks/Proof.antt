@@ -1,3 +1,4 @@
+-- `evidence::steps::breaks`: each return is one branch of the rule; where the rows are the same only the block that u fetches is asked for.
 use native.Mathlib.Omega.{arith}
 use borrow.Author.Needs.{needs}
 use Rattle.evidence.proofs.OneRow.{number-at, rising-at}

@@ -1,3 +1,4 @@
+-- `evidence::steps::lost`: one return for each part of "u's block where u fetches one of b's set".
 use borrow.Author.Needs.{needs}
 use Rattle.evidence.proofs.Sets.{forgets-none, forgets-other, forgets-same}
 use Rattle.evidence.proofs.steps.lost.Statement.{statement}
