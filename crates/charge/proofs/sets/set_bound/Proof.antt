@@ -11,8 +11,9 @@ add-a-2 c = let p = c .before .before .before .pre in omega (arith, A-small _ _ 
 
 returns : tie.Need-returns
 returns c =
-    let p = c .before .before .before .before .before .before .pre in (
-      floor-set _ _ _ _ _ _ (p .0) _ (p .1) _ (sym (c .before .before .has-floors .ensures) ∙ c .before .if1 .taken) (c .least-floor .ensures .0),
+    let asked = c .before .before in
+    let p = asked .before .before .before .before .pre in (
+      floor-set _ _ _ _ _ _ (p .0) _ (p .1) _ (sym (asked .has-floors .ensures) ∙ c .before .if1 .taken) (c .least-floor .ensures .0),
       omega (arith, c .least-floor .ensures .1, A-small _ _ _ _ _ _ (p .0) _ (p .1)),
     )
 
