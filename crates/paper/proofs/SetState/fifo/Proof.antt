@@ -1,4 +1,4 @@
--- `paper::SetState::fifo` meets its contract.
+-- `paper::SetState::fifo`: a block that stands in a line has a weight above 0; on a miss the lines below k move.
 use mathlib.Core.Path.{_≡_, _∙_, ap, sym}
 use mathlib.Core.Bool.{false}
 use mathlib.Core.List.{List}

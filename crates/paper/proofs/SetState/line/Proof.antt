@@ -1,4 +1,4 @@
--- `paper::SetState::line` meets its contract: the guess, where it is right, is the line's bit.
+-- `paper::SetState::line`: the weight tells the line's bit, and the guess, where it is right, is that bit.
 use Prim.Native.Nat.{ℕ, _-_, _%_, _<_}
 use native.Mathlib.Omega.{arith}
 use mathlib.Core.Path.{_≡_, ap, _∙_}

@@ -1,4 +1,4 @@
--- `paper::SetState::lru` meets its contract.
+-- `paper::SetState::lru`: the lines that the shift does not keep move, on a hit and on a miss by one law (`lru-took`).
 use Prim.Native.Nat.{ℕ}
 use mathlib.Core.Path.{_≡_, refl, _∙_, ap}
 use mathlib.Core.List.{List}

@@ -1,4 +1,4 @@
--- `paper::SetState::nmru` meets its contract.
+-- `paper::SetState::nmru`: the line that it is told is the access's; its bit is marked, and a miss replaces what stood there.
 use Prim.Native.Nat.{ℕ}
 use mathlib.Core.Path.{_≡_, _∙_, ap}
 use mathlib.Core.Bool.{false}

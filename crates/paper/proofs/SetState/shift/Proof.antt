@@ -1,4 +1,4 @@
--- `paper::SetState::shift` meets its contract: the last shift, where the weight is the same, is the one asked for.
+-- `paper::SetState::shift`: the last shift, where the weight is the same, is the one asked for.
 use Prim.Native.Nat.{ℕ}
 use mathlib.Core.Path.{_∙_, ap, ap₂, sym}
 use borrow.Author.Needs.{needs}

@@ -1,4 +1,4 @@
--- `paper::cache::home_in` meets its contract: the law of the two products.
+-- `paper::cache::home_in`: the law of the two products.
 use Prim.Native.Nat.{ℕ, _*_, _%_, _/_, _≤_}
 use native.Mathlib.Nat.{mul-le-mul, mod-lt}
 use native.Mathlib.Omega.{arith}

@@ -1,4 +1,4 @@
--- `paper::methods::kept_from` meets its contract: the lines from n to i-1 are marked.
+-- `paper::methods::kept_from`: the lines from n to i-1 are marked.
 use Prim.Native.Nat.{_-_, _≤_}
 use native.Mathlib.Omega.{arith}
 use mathlib.Core.Path.{_≡_, _∙_}

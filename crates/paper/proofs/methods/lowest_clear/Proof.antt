@@ -1,4 +1,4 @@
--- `paper::methods::lowest_clear` meets its contract.
+-- `paper::methods::lowest_clear`: the bits that p's complement and p + 1 have in common are the lowest 0 of p (`victim-bit`).
 use native.Mathlib.Omega.{arith}
 use borrow.Author.Needs.{needs}
 use Rattle.paper.proofs.Masks.{victim-bit}

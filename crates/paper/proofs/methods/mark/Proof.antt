@@ -1,4 +1,4 @@
--- `paper::methods::mark` meets its contract: for eight ways by the table's rule, for others by the mask.
+-- `paper::methods::mark`: for eight ways by the table's rule, for others by the mask.
 use Prim.Native.Nat.{ℕ, _+_, _*_, _^_, _≤_}
 use native.Mathlib.Omega.{arith}
 use mathlib.Core.Path.{_≡_, sym, _∙_, ap, ap₂}

@@ -1,4 +1,4 @@
--- `paper::methods::shift_at` meets its contract.
+-- `paper::methods::shift_at`: the lines after the one with this weight are kept too, by `kept_after`.
 use Prim.Native.Nat.{ℕ}
 use mathlib.Core.Path.{ap}
 use mathlib.Core.List.{List}

@@ -1,4 +1,4 @@
--- `paper::methods::shift_of` meets its contract.
+-- `paper::methods::shift_of`: with weight 0 the lines from k on are kept and no others.
 use Prim.Native.Nat.{ℕ}
 use mathlib.Core.Path.{_∙_, ap}
 use mathlib.Core.List.{List}
