@@ -1,5 +1,5 @@
-/* Runs a trace of addresses on a cache of two ways and one set, under each policy: as a whole, and access by access.
- * Prints M for a miss and h for a hit. README.md says how to link it. */
+/* Runs a trace of addresses on a cache of two ways and one set, under each policy: as a whole, and access by access (the paper's checked number 7).
+ * Prints M for a miss and h for a hit. Then a trace of no accesses, and a cache that there is not (number 8). README.md says how to link it. */
 #include <bolgverk.h>
 #include <stdio.h>
 
@@ -31,5 +31,9 @@ int main(void)
     show("LRU", 0, blocks);
     show("FIFO", 1, blocks);
     show("NMRU", 2, blocks);
+    uint64_t misses = 0, place = 0;
+    printf("no accesses: refused %u, ", bolgverk_trace_run(0, WAYS, SETS, blocks, 0, &set, 0, &misses, &place));
+    printf("%lu misses\n", misses);
+    printf("NMRU with one way: refused %u\n", bolgverk_trace_run(2, 1, SETS, blocks, 0, &set, 0, &misses, &place));
     return 0;
 }
