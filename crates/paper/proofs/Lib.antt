@@ -25,4 +25,5 @@ pub mod SameGraphs
 pub mod SameFacts
 pub mod AnswerLaws
 pub mod RefusalLaws
+pub mod SecondPlaces
 pub mod Homes

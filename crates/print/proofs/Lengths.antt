@@ -36,5 +36,7 @@ module _ (word : List ℕ) where
   unfolding lineOfTwo line
   line-of-two-length i n = simp length-append (omega arith)
 
-pub refusal-length : (r : Refusal) → r .number < 2 ^ 64 → r .place < 2 ^ 64 → length (refusalLine r) ≤ 50
-refusal-length r n p = omega (arith, line-of-two-length (bytes "refused ") (r .number) (r .place), short (r .number) n, short (r .place) p)
+pub refusal-length : (r : Refusal) → r .number < 2 ^ 64 → r .place < 2 ^ 64 → r .second < 2 ^ 64 → length (refusalLine r) ≤ 71
+refusal-length r n p q =
+    simp length-append
+    (omega (arith, line-of-two-length (bytes " ") (r .place) (r .second), short (r .number) n, short (r .place) p, short (r .second) q))
