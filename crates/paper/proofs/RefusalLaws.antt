@@ -97,7 +97,7 @@ module _ (f : List ℕ) (trailer : Trailer) where
       (one 13 i (unfetched e s)
       (one 14 i (ltb (endAt f) (factEnd f trailer p))
       (at-second 16 i _ (some (badRowAt e s) (size (scopeOf e s))) (inl (omega arith))
-      (at-second _ i _ (some (badStepAt e s) (e .edges)) (step-number e s (least (badStepAt e s) (e .edges)))
+      (at-second _ i _ (some (badStepAt e s) (e .edges)) (step-number e s _)
       (at-second 18 i _ (some (badManyAt e s) (size (scopeOf e s))) (inl (omega arith)) h)))))))
 
   turns-numbered : (n i : ℕ) (previous : Previous) (p : ℕ) (rest : Verdict) → Numbered 1 toldVerdict rest → Numbered 1 toldVerdict (turnsFrom f trailer n i previous p rest)

@@ -202,7 +202,7 @@ module _ (e : Case) (t : Fact) where
     -- its number is that of the one it breaks
     pub by-b : afterB e t x s ≡ true → brokenBy e t x r s ≡ 24
     unfolding brokenBy
-    by-b h = rw h
+    by-b h = ap (λ (b : Bool). cond b 24 (cond (afterMany e t x r s) 25 17)) h
 
     pub by-many : afterMany e t x r s ≡ true → brokenBy e t x r s ≡ 25
     unfolding brokenBy

@@ -14,7 +14,7 @@ use Rattle.paper.proofs.Least.{Found, some-is, least-is}
 module _ (e : Case) (t : Fact) (i : ℕ) (rest : Verdict) where
   -- a row that is not sound comes first
   pub row-told : some (badRowAt e t) (size (scopeOf e t)) ≡ true → evidenceRules e i t rest ≡ Refused (refuseAt 16 i (leastNode e t (badRowAt e t)))
-  unfolding rowRules
+  unfolding rowRules stepRules manyRules
   row-told h = rw h refl
 
   module _ (rows : some (badRowAt e t) (size (scopeOf e t)) ≡ false) where
