@@ -1,4 +1,4 @@
-/* The check in plain C: the rules in the paper's order, each with its least place, then the 321 numbers.
+/* The check in plain C: the rules in the paper's order, each with its least places, then the 321 numbers.
  * Rows are read straight from the file, and for each fact the edges of its scope are gone through once, in file order. */
 #include "cache.h"
 #include "plain.h"
@@ -37,7 +37,7 @@ struct check {
     uint8_t limit[MOST_NODES]; /* of the fact that covers the node, 0 for none */
     struct sums sums[MOST_SETS];
     uint64_t numbers[NUMBERS];
-    uint64_t place;
+    uint64_t place, second;
 };
 
 static inline unsigned u16_at(const uint8_t *at) { return at[0] | at[1] << 8; }
@@ -200,13 +200,17 @@ static int row_is_sound(const struct check *c, const struct fact *f, const uint8
     return 1;
 }
 
-/* Rule 16. */
-static int rows_are_sound(const struct check *c, const struct fact *f)
+static inline const uint8_t *row_of(const struct fact *f, unsigned node) { return f->rows + ROW * (node - f->first); }
+
+/* Rule 16. The second place is the node. */
+static unsigned check_rows(struct check *c, const struct fact *f)
 {
-    for (unsigned v = 0; v <= f->last - f->first; v++)
-        if (!row_is_sound(c, f, f->rows + ROW * v))
-            return 0;
-    return 1;
+    for (unsigned v = f->first; v <= f->last; v++)
+        if (!row_is_sound(c, f, row_of(f, v))) {
+            c->second = v;
+            return 16;
+        }
+    return 0;
 }
 
 /* Both rows are sets in rising order: row v holds row u's blocks, and x where it is one. */
@@ -241,41 +245,47 @@ static unsigned first_edge(const struct check *c, unsigned node)
     return low;
 }
 
-static inline int edge_keeps_rule(const struct check *c, const struct fact *f, unsigned u, const uint8_t *row_u, const uint8_t *row_v)
+/* 0, or the number that the edge earns. */
+static inline unsigned check_edge(const struct check *c, const struct fact *f, unsigned u, const uint8_t *row_u, const uint8_t *row_v)
 {
     unsigned block = block_at(c, u), number_u = u16_at(row_u), number_v = u16_at(row_v);
     if (block == f->block)
-        return number_v != NOT_SINCE;
+        return number_v == NOT_SINCE ? 24 : 0;
     if (number_u == NOT_SINCE || number_v == MANY)
-        return 1;
-    if (number_u == MANY || number_v == NOT_SINCE)
         return 0;
-    return row_holds(row_u, row_v, block != NONE && block % c->sets == f->set ? block : NONE);
+    if (number_u == MANY)
+        return 25;
+    return number_v != NOT_SINCE && row_holds(row_u, row_v, block != NONE && block % c->sets == f->set ? block : NONE) ? 0 : 17;
 }
 
-/* Rule 17. */
-static int edges_keep_rule(const struct check *c, const struct fact *f)
+/* Rules 17, 24 and 25: the least edge decides. The second place is the edge. */
+static unsigned check_edges(struct check *c, const struct fact *f)
 {
     for (unsigned i = first_edge(c, f->first); i < c->edges; i++) {
         unsigned u = edge_from(c, i), v = edge_to(c, i);
         if (u > f->last)
             break;
-        if (v >= f->first && v <= f->last && !edge_keeps_rule(c, f, u, f->rows + ROW * (u - f->first), f->rows + ROW * (v - f->first)))
-            return 0;
+        unsigned number = v >= f->first && v <= f->last ? check_edge(c, f, u, row_of(f, u), row_of(f, v)) : 0;
+        if (number != 0) {
+            c->second = i;
+            return number;
+        }
     }
-    return 1;
-}
-
-/* Rule 18. */
-static int fetches_many(const struct check *c, const struct fact *f)
-{
-    for (unsigned v = f->first; v <= f->last; v++)
-        if (block_at(c, v) == f->block && u16_at(f->rows + ROW * (v - f->first)) == MANY)
-            return 1;
     return 0;
 }
 
-/* Rules 11 to 18 for the fact at *at, which moves past its rows. The number of the refusal, or 0. */
+/* Rule 18. The second place is the node. */
+static unsigned check_fetches(struct check *c, const struct fact *f)
+{
+    for (unsigned v = f->first; v <= f->last; v++)
+        if (block_at(c, v) == f->block && u16_at(row_of(f, v)) == MANY) {
+            c->second = v;
+            return 18;
+        }
+    return 0;
+}
+
+/* Rules 11 to 18, 24 and 25 for the fact at *at, which moves past its rows. The number of the refusal, or 0. */
 static unsigned check_fact(struct check *c, size_t *at, const struct fact *before, struct fact *f)
 {
     if (c->end - *at < FACT_HEAD)
@@ -294,7 +304,10 @@ static unsigned check_fact(struct check *c, size_t *at, const struct fact *befor
     if (c->end - *at - FACT_HEAD < rows)
         return 15;
     *at += FACT_HEAD + rows;
-    return !rows_are_sound(c, f) ? 16 : !edges_keep_rule(c, f) ? 17 : fetches_many(c, f) ? 18 : 0;
+    unsigned number = check_rows(c, f);
+    if (number == 0)
+        number = check_edges(c, f);
+    return number != 0 ? number : check_fetches(c, f);
 }
 
 static uint64_t fact_bound(const struct check *c, const struct fact *f)
@@ -309,7 +322,7 @@ static uint64_t fact_bound(const struct check *c, const struct fact *f)
     return f->visits < all ? f->visits : all;
 }
 
-/* Rules 11 to 19, and what each fact adds to its set. */
+/* Rules 11 to 19, 24 and 25, and what each fact adds to its set. */
 static unsigned check_facts(struct check *c)
 {
     size_t at = 2 * c->nodes + 4 * c->edges + 8 * c->loops;
@@ -374,7 +387,7 @@ static unsigned check_graph(struct check *c)
     return number != 0 ? number : check_counts(c);
 }
 
-uint8_t plain_check(const uint8_t *file, size_t file_length, uint64_t *numbers, size_t numbers_length, uint64_t *place)
+uint8_t plain_check(const uint8_t *file, size_t file_length, uint64_t *numbers, size_t numbers_length, uint64_t *place, uint64_t *second)
 {
     struct check c;
     memset(&c, 0, sizeof c);
@@ -389,5 +402,6 @@ uint8_t plain_check(const uint8_t *file, size_t file_length, uint64_t *numbers, 
         memcpy(numbers, c.numbers, sizeof c.numbers);
     }
     *place = c.place;
+    *second = c.second;
     return (uint8_t)number;
 }

@@ -7,13 +7,13 @@ static uint8_t file[65537];
 
 int main(void)
 {
-    uint64_t numbers[BOLGVERK_NUMBERS] = {0}, place;
+    uint64_t numbers[BOLGVERK_NUMBERS] = {0}, place, second;
     size_t length = fread(file, 1, sizeof file, stdin);
     if (length > 65536)
-        return printf("refused 28 0\n") < 0;
-    uint8_t refused = bolgverk_check(file, length, numbers, BOLGVERK_NUMBERS, &place);
+        return printf("refused 28 0 0\n") < 0;
+    uint8_t refused = bolgverk_check(file, length, numbers, BOLGVERK_NUMBERS, &place, &second);
     if (refused)
-        return printf("refused %u %lu\n", refused, place) < 0;
+        return printf("refused %u %lu %lu\n", refused, place, second) < 0;
     unsigned sets = file[length - 6], facts = file[length - 10] + 256u * file[length - 9];
     printf("total %lu\n", numbers[0]);
     for (unsigned q = 0; q < sets; q++)

@@ -6,7 +6,8 @@
  *   - a pointer with a length has that many elements behind it, each of them set;
  *   - memory that an operation writes overlaps nothing else that is passed to it, and nothing else touches it during the call.
  *
- * A refusal has a number and a place, as in the table at the end. A refused call writes no lent memory but *place.
+ * A refusal has a number, a place and a second place, as in the table at the end. A refused call writes no lent memory but *place and
+ * *second. Only the check's refusals have a second place that is not 0, so only it hands one over.
  * Policies: 0 LRU, 1 FIFO, 2 NMRU. Ways: 1 to 8 (NMRU 2 to 8). Sets: 1 to 64. Blocks: 0 to 65,534; 65,535 means none.
  */
 #ifndef BOLGVERK_H
@@ -27,8 +28,10 @@ extern "C" {
  *   numbers, numbers_length  gets the 321 numbers, if the file is accepted: [0] the total, [1 + q] the bound of set q, [65 + i] the
  *                            bound of fact i, 0 where there is no such set or fact; numbers past the 321st stay as they are
  *   place                    gets the refusal's place, 0 if the file is accepted; always written
- * Returns 0 if the file is accepted, else the refusal's number: 20 first, then 1 to 10, then 11 to 18 fact by fact, then 19. */
-uint8_t bolgverk_check(const uint8_t *file, size_t file_length, uint64_t *numbers, size_t numbers_length, uint64_t *place);
+ *   second                   gets the refusal's second place: for 16 and 18 the node, for 17, 24 and 25 the edge, else 0; always written
+ * Returns 0 if the file is accepted, else the refusal's number: 20 first, then 1 to 10, then 11 to 18 fact by fact (24 and 25 together
+ * with 17, by the least edge), then 19. */
+uint8_t bolgverk_check(const uint8_t *file, size_t file_length, uint64_t *numbers, size_t numbers_length, uint64_t *place, uint64_t *second);
 
 /* Runs a trace of block accesses from empty sets.
  *   policy, ways, sets       the cache
@@ -63,30 +66,33 @@ uint8_t bolgverk_block_of(uint32_t address, uint32_t line_size, uint16_t *block)
  * Returns 0, or the refusal's number: 3 where sets is not 1 to 64, 21 for block 65,535, tested in this order. Its place is 0. */
 uint8_t bolgverk_set_of(uint16_t block, uint8_t sets, uint8_t *set);
 
-/* The refusals, in README.md's words: number, what is wrong, the place. The least place where it holds is given.
- *    1  the file has fewer than 32 bytes                                                                     0
- *    2  the trailer's letters or version are wrong                                                           0
- *    3  policy, ways or sets out of range                                                                    0
- *    4  a number of nodes, edges, loops or facts out of range                                                0
- *    5  an offset is wrong, or the facts would start past the trailer                                        0
- *    6  an edge's end is no node, or the edge does not come after the one before it                          edge
- *    7  a loop's first node above its last, its last no node, its bound not 1 to 1,000,000, its first node not above that of the loop before it, or it crosses an earlier one loop
- *    8  a forward edge enters a loop beside its header                                                       edge
- *    9  a backward edge does not lead to the header of a loop around its source                              edge
- *   10  a node's count is above 4,294,967,295                                                                node
- *   11  fewer than 6 bytes are left for a fact                                                               fact
- *   12  a fact's loop number, block or age limit out of range                                                fact
- *   13  a fact's block is below the previous fact's, or equal and its scope starts at or before the previous scope's last node fact
- *   14  no node of a fact's scope fetches its block                                                          fact
- *   15  a fact's rows are cut short                                                                          fact
- *   16  a row is not sound                                                                                   fact
- *   17  two rows break the rule of an edge between their nodes                                               fact
- *   18  a node that fetches the fact's block has row 8 ("many")                                              fact
- *   19  bytes are left between the last fact and the trailer                                                 0
- *   20  the lent list is too short: 321 numbers, or one byte an access                                       0
- *   21  block 65,535 is accessed, or an address's block is above 65,534                                      access, else 0
- *   22  the set's state is not legal                                                                         0
- *   23  the line size is none of 8, 16, 32, 64, 128                                                          0
+/* The refusals, in README.md's words: number, what is wrong, the place, the second place. The least places where it holds are given; of 17, 24 and 25,
+ * which stand together before 18, the least edge decides.
+ *    1  the file has fewer than 32 bytes                                                                     0              0
+ *    2  the trailer's letters or version are wrong                                                           0              0
+ *    3  policy, ways or sets out of range                                                                    0              0
+ *    4  a number of nodes, edges, loops or facts out of range                                                0              0
+ *    5  an offset is wrong, or the facts would start past the trailer                                        0              0
+ *    6  an edge's end is no node, or the edge does not come after the one before it                          edge           0
+ *    7  a loop's first node above its last, its last no node, its bound not 1 to 1,000,000, its first node not above that of the loop before it, or it crosses an earlier one loop           0
+ *    8  a forward edge enters a loop beside its header                                                       edge           0
+ *    9  a backward edge does not lead to the header of a loop around its source                              edge           0
+ *   10  a node's count is above 4,294,967,295                                                                node           0
+ *   11  fewer than 6 bytes are left for a fact                                                               fact           0
+ *   12  a fact's loop number, block or age limit out of range                                                fact           0
+ *   13  a fact's block is below the previous fact's, or equal and its scope starts at or before the previous scope's last node fact           0
+ *   14  no node of a fact's scope fetches its block                                                          fact           0
+ *   15  a fact's rows are cut short                                                                          fact           0
+ *   16  a row is not sound                                                                                   fact           node
+ *   17  a set is followed by row 9, or by a set that lacks a block                                           fact           edge
+ *   18  a node that fetches the fact's block has row 8 ("many")                                              fact           node
+ *   19  bytes are left between the last fact and the trailer                                                 0              0
+ *   20  the lent list is too short: 321 numbers, or one byte an access                                       0              0
+ *   21  block 65,535 is accessed, or an address's block is above 65,534                                      access, else 0 0
+ *   22  the set's state is not legal                                                                         0              0
+ *   23  the line size is none of 8, 16, 32, 64, 128                                                          0              0
+ *   24  row 9 ("not since b") follows a fetch of the fact's block                                            fact           edge
+ *   25  row 8 ("many") is followed by another row                                                            fact           edge
  */
 
 #ifdef __cplusplus

@@ -3,15 +3,16 @@
 use crate::case::{judge, Bounds, Paper};
 use crate::refusal::{demand, Refusal};
 
-/// "the program reads at most 65,536 bytes and prints `refused 28 0` for longer input."
+/// "the program reads at most 65,536 bytes and prints `refused 28 0` for longer input"; since item 1 "A printed refusal
+/// ends with the second place: `refused 28 0 0`."
 pub const LONGEST_INPUT: usize = 65_536;
 
 /// "Each line: word, number of the set or fact, bound. Every set up to S is listed. A refusal prints `refused`, number,
-/// place."
+/// place", and then its second place.
 pub fn listing(input: &[u8]) -> String {
     match bounds(input) {
         Ok(Bounds { total, sets, facts }) => format!("total {total}\n{}{}", lines("set", &sets), lines("fact", &facts)),
-        Err(Refusal { number, place }) => format!("refused {number} {place}\n"),
+        Err(Refusal { number, place, second }) => format!("refused {number} {place} {second}\n"),
     }
 }
 

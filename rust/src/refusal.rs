@@ -1,14 +1,21 @@
-//! "Each returns number and place and changes no lent memory."
+//! "Each returns number and place and changes no lent memory." Since item 1 of the requests, "The result gets a second
+//! place", and it is 0 in every refusal that the item does not name.
 
 #[derive(Clone, Copy, Debug, PartialEq, Eq)]
 pub struct Refusal {
     pub number: u8,
     pub place: u64,
+    pub second: u64,
 }
 
 impl Refusal {
     pub fn new(number: u8, place: usize) -> Refusal {
-        Refusal { number, place: place as u64 }
+        Refusal { number, place: place as u64, second: 0 }
+    }
+
+    /// The same, and where in the fact: at a node's number or an edge's.
+    pub fn at(self, second: usize) -> Refusal {
+        Refusal { second: second as u64, ..self }
     }
 }
 

@@ -22,12 +22,12 @@ use Rattle.bolgverk.proofs.Kept.{check-kept}
 module _ (f lent : List ℕ) where
   pub too-short : (r : Refusal) → length lent < 321 → r ≡ refuse 20 0 → CheckPromise f lent (Refused r) lent
   unfolding verdict
-  too-short r h e = check-kept f lent (Refused r) lent (stops-lt 20 0 (length lent) 321 (fileVerdict f) r h e) refl
+  too-short r h e = check-kept f lent (Refused r) lent (stops-lt (refuse 20 0) (length lent) 321 (fileVerdict f) r h e) refl
 
   module _ (h : 321 ≤ length lent) (l : Layout) (a : l ≡ layoutOf f) where
     enough : (v : Verdict) → v ≡ fileVerdict f → v ≡ verdict f (length lent)
     unfolding verdict
-    enough v e = passes-lt 20 0 (length lent) 321 (fileVerdict f) v h e
+    enough v e = passes-lt (refuse 20 0) (length lent) 321 (fileVerdict f) v h e
 
     pub layout-refused : (r : Refusal) → l ≡ Layouts.Refused r → CheckPromise f lent (Refused r) lent
     layout-refused r e = check-kept f lent (Refused r) lent (enough (Refused r) (sym (refused-rules f r _ (sym a ∙ e)))) refl

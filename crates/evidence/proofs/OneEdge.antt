@@ -1,17 +1,17 @@
--- Rule 17 for one edge, branch by branch.
+-- The edge rule for one edge, branch by branch.
 use Prim.Native.Nat.{ℕ, _≤_, _<_}
 use native.Mathlib.Omega.{arith}
 use native.Mathlib.Decide.{ℕ-discrete}
 use mathlib.Core.Path.{_≡_, refl, sym, _∙_}
 use mathlib.Core.Logic.{_≢_}
-use mathlib.Core.Bool.{Bool, true, false, cond, not, _||_, or-true, or-false}
+use mathlib.Core.Bool.{Bool, true, false, not, _&&_, _||_, or-true, or-false}
 use mathlib.Core.List.{List}
 use borrow.Author.Tests.{lt-leb, le-leb, eq-eqb, ne-eqb}
 use lib.Dec.{eqb, leb}
 use Rattle.paper.specs.Lists.{some}
 use Rattle.paper.specs.declared.Trailer.{Trailer}
 use Rattle.paper.specs.Files.{rowPlace, rowAt, caseOf}
-use Rattle.paper.specs.Facts.{held, lacks, breaks}
+use Rattle.paper.specs.Facts.{held, lacks, afterB, afterMany, afterSet, breaks}
 use Rattle.evidence.specs.declared.Head.{Head}
 use Rattle.evidence.specs.Stands.{Stands, factOf}
 use Rattle.evidence.specs.RowParts.{missing, forgets, breaksAt}
@@ -22,25 +22,27 @@ use Rattle.evidence.proofs.Sets.{alike-holds}
 module _ (f : List ℕ) (trailer : Trailer) (h : Head) (p : Stands f trailer h) (x i j s m : ℕ) (sj : s ≡ rowPlace (h .place) j) (b : m ≡ rowAt f s .number) where
   -- "u fetches b: row v is not 9"
   pub breaks-b : x ≡ h .block → eqb m 9 ≡ breaksAt f trailer h x i j
-  unfolding breaks
-  breaks-b q = rw (eq-eqb _ _ (q ∙ p .block), ← sj, ← b) refl
+  unfolding breaks afterB afterMany afterSet
+  breaks-b q = rw (eq-eqb _ _ (q ∙ p .block), ← sj, ← b) (sym (or-false (eqb m 9)))
 
   module _ (q : x ≢ h .block) (r n : ℕ) (ri : r ≡ rowPlace (h .place) i) (a : n ≡ rowAt f r .number) where
     other :
         breaksAt f trailer h x i j
-        ≡ cond (eqb n 9) false
-        (cond (eqb n 8) (not (eqb m 8)) (cond (eqb m 8) false (leb 8 m || lacks (caseOf f trailer) (factOf f h) x (rowAt f r) (rowAt f s))))
-    unfolding breaks
+        ≡ ((eqb n 8 && not (eqb m 8))
+        || ((not (eqb n 9) && not (eqb n 8)) && (not (eqb m 8) && (leb 8 m || lacks (caseOf f trailer) (factOf f h) x (rowAt f r) (rowAt f s)))))
+    unfolding breaks afterB afterMany afterSet
     other = rw (ne-eqb _ _ (λ z. q (z ∙ sym (p .block))), ← ri, ← sj, ← a, ← b) refl
 
     -- "else row u is 9: nothing is required"
     pub breaks-not-since : n ≡ 9 → false ≡ breaksAt f trailer h x i j
-    breaks-not-since e = sym (other ∙ rw (eq-eqb n 9 e) refl)
+    breaks-not-since e =
+        let z : n ≢ 8 = omega arith in
+        sym (other ∙ rw (eq-eqb n 9 e, ne-eqb n 8 z) refl)
 
     module _ (l : n ≢ 9) where
       -- "else row u is 8: row v is 8"
       pub breaks-many : n ≡ 8 → not (eqb m 8) ≡ breaksAt f trailer h x i j
-      breaks-many e = sym (other ∙ rw (ne-eqb n 9 l, eq-eqb n 8 e) refl)
+      breaks-many e = sym (other ∙ rw (ne-eqb n 9 l, eq-eqb n 8 e) (or-false (not (eqb m 8))))
 
       module _ (k : n ≢ 8) where
         -- "else row v is 8, or a set"

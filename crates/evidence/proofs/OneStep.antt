@@ -1,20 +1,21 @@
--- Rule 17 for the edges of the file: one counts where both its ends are in the scope, and those that may stand together.
+-- The edge rule for the edges of the file: one counts where both its ends are in the scope, and those that may stand together.
 use Prim.Native.Nat.{ℕ, _+_, _-_, _≤_, _<_}
 use native.Mathlib.Omega.{arith}
 use native.Mathlib.Decide.{decLe}
 use mathlib.Core.Path.{_≡_, refl, sym, _∙_}
 use mathlib.Core.Logic.{_↔_, ⊎-elim}
-use mathlib.Core.Bool.{Bool, true, false, _||_}
+use mathlib.Core.Bool.{Bool, true, false, cond, _||_}
 use mathlib.Core.List.{List}
 use borrow.Author.Tests.{ltb-false}
-use lib.Dec.{ltb}
+use lib.Dec.{eqb, ltb}
 use Rattle.paper.specs.declared.Trailer.{Trailer}
 use Rattle.paper.specs.Cases.{scopeOf}
-use Rattle.paper.specs.Files.{nodeAt, fromAt, toAt, caseOf}
+use Rattle.paper.specs.Files.{nodeAt, fromAt, toAt, rowPlace, rowAt, caseOf}
 use Rattle.paper.specs.Known.{Shaped}
-use Rattle.paper.specs.Lists.{some}
-use Rattle.paper.specs.Facts.{badStepAt}
-use Rattle.paper.proofs.Least.{Passed, passed-more, some-none}
+use Rattle.paper.specs.Lists.{least}
+use Rattle.paper.specs.Facts.{badStepAt, stepNumber}
+use Rattle.paper.proofs.Least.{Passed, passed-more, least-none}
+use Rattle.paper.proofs.RowLaws.{breaks-says, broken-by}
 use Rattle.paper.proofs.Says.{neither, says-lt, says-or, says-false, says-true, says-is}
 use Rattle.paper.proofs.Meaning.{In}
 use Rattle.paper.proofs.GraphLaws.{inside-says}
@@ -42,6 +43,21 @@ module _ (f : List ℕ) (trailer : Trailer) (h : Head) (s : Stands f trailer h) 
     step-out : ¬ ((h .first ≤ fromAt f trailer i) × (fromAt f trailer i ≤ h .last)) → badStepAt (caseOf f trailer) (factOf f h) i ≡ false
     unfolding caseOf
     step-out n = says-false (step-says (caseOf f trailer) (factOf f h) i) .1 (λ p. n (in-scope _ .0 (p .0 .0)))
+
+    -- an edge that breaks its rule comes from a node of the scope, and that node's block and row tell which rule
+    module _ (bad : badStepAt (caseOf f trailer) (factOf f h) i ≡ true) where
+      pub step-inside : (h .first ≤ fromAt f trailer i) × (fromAt f trailer i ≤ h .last)
+      unfolding caseOf
+      step-inside = in-scope _ .0 (says-true (step-says (caseOf f trailer) (factOf f h) i) bad .0 .0)
+
+      pub step-told :
+          (u x at n : ℕ) → u ≡ fromAt f trailer i → x ≡ nodeAt f u → at ≡ rowPlace (h .place) (u - h .first) → n ≡ rowAt f at .number →
+          cond (eqb x (h .block)) 24 (cond (eqb n 8) 25 17) ≡ stepNumber (caseOf f trailer) (factOf f h) i
+      unfolding stepNumber caseOf badStepAt
+      step-told u x at n a b p c =
+          sym
+          (broken-by (caseOf f trailer) (factOf f h) _ _ _ (says-is (breaks-says (caseOf f trailer) (factOf f h) _ _ _) (says-true (step-says (caseOf f trailer) (factOf f h) i) bad .1))
+          ∙ rw (← a, ← b, ← s .block, ← s .first, ← p, ← c) refl)
 
     pub step-before : fromAt f trailer i < h .first → badStepAt (caseOf f trailer) (factOf f h) i ≡ false
     step-before l = step-out (λ p. omega arith)
@@ -86,11 +102,11 @@ module _ (f : List ℕ) (trailer : Trailer) (h : Head) (s : Stands f trailer h) 
         record { passed = passed-more _ _ _ b (w .passed) l e z; above = λ k q. w .above k (omega arith) }
 
     -- the edges from here on come from nodes after the scope
-    pub reached-after : Shaped (caseOf f trailer) → (u : ℕ) → u ≡ fromAt f trailer i → h .last < u → false ≡ some (badStepAt (caseOf f trailer) (factOf f h)) (trailer .edges)
+    pub reached-after : Shaped (caseOf f trailer) → (u : ℕ) → u ≡ fromAt f trailer i → h .last < u → trailer .edges ≡ least (badStepAt (caseOf f trailer) (factOf f h)) (trailer .edges)
     unfolding caseOf
     reached-after o u e q =
         sym
-        (some-none (badStepAt (caseOf f trailer) (factOf f h)) (trailer .edges)
+        (least-none (badStepAt (caseOf f trailer) (factOf f h)) (trailer .edges)
         (λ k z.
         elim (decLe i k) [
           | yes y ↦ step-after f trailer h s k (omega (arith, climbs (fromAt f trailer) (trailer .edges) (o .climbs) i k y z))

@@ -1,7 +1,8 @@
-// One fact and its evidence: rules 14 and 16 to 18. Nodes, edges and rows are read straight from the file.
+// One fact and its evidence: rules 14, 16 to 18, 24 and 25. Nodes, edges and rows are read straight from the file.
 ghost use mathlib.Core.Path.{_≡_};
-ghost use Prim.Native.Nat.{_<_, _≤_};
-ghost use Rattle.paper.specs.Lists.{some};
+ghost use Prim.Native.Nat.{_+_, _<_, _≤_};
+ghost use Rattle.paper.specs.Answers.{refuseAt};
+ghost use Rattle.paper.specs.Lists.{least};
 ghost use Rattle.paper.specs.Ceilings.{mostNodes};
 ghost use Rattle.paper.specs.Files as Files;
 ghost use Rattle.paper.specs.Facts as Facts;
@@ -18,6 +19,7 @@ use paper::Verdict;
 pub use rows::bad_rows;
 use rows::row_at;
 pub use steps::bad_steps;
+use steps::step_number;
 
 // The fact at hand: where it stands, its scope's first and last node, its block b, its limit, and b's set.
 pub struct Head {
@@ -77,25 +79,34 @@ fn bad_many(file: &[u8], trailer: Trailer, h: Head, j: u16) -> bool
     false
 }
 
-// 18: "a node that fetches b has row 8"
-pub fn bad_manys(file: &[u8], trailer: Trailer, h: Head) -> bool
+// 18: "a node that fetches b has row 8": the least such node of the scope, and the number of its nodes where there is none.
+pub fn bad_manys(file: &[u8], trailer: Trailer, h: Head) -> u16
     requires { ⌜ Laid (now file) trailer ⌝ }
     requires { ⌜ Stands (now file) trailer h ⌝ }
     requires { ⌜ Whole (now file) h ⌝ }
-    ensures { λ r. ⌜ r ≡ some (Facts.badManyAt (Files.caseOf (now (file .entry)) trailer) (factOf (now (file .entry)) h)) (nodesOf h) ⌝ }
+    ensures { λ r. ⌜ r ≡ least (Facts.badManyAt (Files.caseOf (now (file .entry)) trailer) (factOf (now (file .entry)) h)) (nodesOf h) ⌝ }
 {
     let n = nodes_of(h);
     let mut j: u16 = 0;
     while j < n {
         if bad_many(file, trailer, h, j) {
-            return true;
+            return j;
         }
         j += 1;
     }
-    false
+    j
 }
 
-// 16 to 18, the evidence of fact i.
+// Fact i is refused at the scope's node j, by its number in the graph.
+fn at_node(number: u8, i: u16, h: Head, j: u16) -> Verdict
+    requires { ⌜ h .last < mostNodes ⌝ }
+    requires { ⌜ j < nodesOf h ⌝ }
+    ensures { λ r. ⌜ r ≡ Verdict.Refused (refuseAt number i (h .first + j)) ⌝ }
+{
+    Verdict::Refused(paper::refuse_at(number, i as usize, (h.first + j) as usize))
+}
+
+// 16, then 17, 24 and 25 together, then 18: the evidence of fact i.
 pub fn evidence_rules(file: &[u8], trailer: Trailer, i: u16, h: Head) -> Verdict
     requires { ⌜ Laid (now file) trailer ⌝ }
     requires { ⌜ Shaped (Files.caseOf (now file) trailer) ⌝ }
@@ -103,14 +114,19 @@ pub fn evidence_rules(file: &[u8], trailer: Trailer, i: u16, h: Head) -> Verdict
     requires { ⌜ Whole (now file) h ⌝ }
     ensures { λ r. ⌜ r ≡ Verdicts.evidenceRules (Files.caseOf (now (file .entry)) trailer) i (factOf (now (file .entry)) h) Verdict.Accepted ⌝ }
 {
-    if bad_rows(file, trailer, h) {
-        return Verdict::Refused(paper::refuse(16, i as usize));
+    let n = nodes_of(h);
+    let row = bad_rows(file, trailer, h);
+    if row < n {
+        return at_node(16, i, h, row);
     }
-    if bad_steps(file, trailer, h) {
-        return Verdict::Refused(paper::refuse(17, i as usize));
+    let edge = bad_steps(file, trailer, h);
+    if edge < trailer.edges {
+        let number = step_number(file, trailer, h, edge);
+        return Verdict::Refused(paper::refuse_at(number, i as usize, edge as usize));
     }
-    if bad_manys(file, trailer, h) {
-        return Verdict::Refused(paper::refuse(18, i as usize));
+    let many = bad_manys(file, trailer, h);
+    if many < n {
+        return at_node(18, i, h, many);
     }
     Verdict::Accepted
 }

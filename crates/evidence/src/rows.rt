@@ -4,7 +4,7 @@ ghost use mathlib.Core.Bool.{not};
 ghost use Prim.Native.Nat.{_+_, _%_, _<_, _≤_};
 ghost use lib.Dec.{eqb};
 ghost use lib.ListN.{length};
-ghost use Rattle.paper.specs.Lists.{some};
+ghost use Rattle.paper.specs.Lists.{least, some};
 ghost use Rattle.paper.specs.Files as Files;
 ghost use Rattle.paper.specs.Facts as Facts;
 ghost use Rattle.paper.specs.Records.{rowSize};
@@ -94,21 +94,21 @@ fn bad_row(file: &[u8], trailer: Trailer, sets: Sets, h: Head, j: u16) -> bool
     bad_rest(file, at, n)
 }
 
-// 16: "a row not sound"
-pub fn bad_rows(file: &[u8], trailer: Trailer, h: Head) -> bool
+// 16: "a row not sound": the least such node of the scope, and the number of its nodes where there is none.
+pub fn bad_rows(file: &[u8], trailer: Trailer, h: Head) -> u16
     requires { ⌜ Laid (now file) trailer ⌝ }
     requires { ⌜ Stands (now file) trailer h ⌝ }
     requires { ⌜ Whole (now file) h ⌝ }
-    ensures { λ r. ⌜ r ≡ some (Facts.badRowAt (Files.caseOf (now (file .entry)) trailer) (factOf (now (file .entry)) h)) (nodesOf h) ⌝ }
+    ensures { λ r. ⌜ r ≡ least (Facts.badRowAt (Files.caseOf (now (file .entry)) trailer) (factOf (now (file .entry)) h)) (nodesOf h) ⌝ }
 {
     let sets = paper::sets_of(trailer.sets);
     let n = nodes_of(h);
     let mut j: u16 = 0;
     while j < n {
         if bad_row(file, trailer, sets, h, j) {
-            return true;
+            return j;
         }
         j += 1;
     }
-    false
+    j
 }

@@ -1,12 +1,12 @@
-// Rule 17: the rows at the ends of the edges inside a scope.
+// Rules 17, 24 and 25: the rows at the ends of the edges inside a scope.
 ghost use mathlib.Core.Path.{_≡_};
 ghost use Prim.Native.Nat.{_<_};
-ghost use Rattle.paper.specs.Lists.{some};
+ghost use Rattle.paper.specs.Lists.{least, some};
 ghost use Rattle.paper.specs.Files as Files;
 ghost use Rattle.paper.specs.Facts as Facts;
 ghost use Rattle.paper.specs.Known.{Laid, Shaped};
 ghost use Rattle.evidence.specs.Stands.{factOf, nodesOf, Stands, Ready, Whole, SoundRows};
-ghost use Rattle.evidence.specs.Edges.{Splits, From};
+ghost use Rattle.evidence.specs.Edges.{Splits, From, BadStep};
 ghost use Rattle.evidence.specs.RowParts.{SetAt, RisingAt, missing, forgets, breaksAt};
 use crate::Head;
 use crate::rows::elsewhere;
@@ -70,7 +70,7 @@ fn lost(file: &[u8], trailer: Trailer, sets: Sets, h: Head, x: u16, s: usize, m:
     !holds(file, s, m, x)
 }
 
-// 17, for an edge from the scope's node i, which fetches x, to its node j.
+// 17, 24 or 25, for an edge from the scope's node i, which fetches x, to its node j.
 fn breaks(file: &[u8], trailer: Trailer, sets: Sets, h: Head, x: u16, i: u16, j: u16) -> bool
     requires { ⌜ Ready trailer sets ⌝ }
     requires { ⌜ Stands (now file) trailer h ⌝ }
@@ -123,7 +123,7 @@ fn first_edge(file: &[u8], trailer: Trailer, v: u16) -> u16
     low
 }
 
-// 17, for edge i, which comes from the scope's node u.
+// 17, 24 or 25, for edge i, which comes from the scope's node u.
 fn bad_step(file: &[u8], trailer: Trailer, sets: Sets, h: Head, i: u16, u: u16) -> bool
     requires { ⌜ Laid (now file) trailer ⌝ }
     requires { ⌜ Ready trailer sets ⌝ }
@@ -148,26 +148,44 @@ fn bad_step(file: &[u8], trailer: Trailer, sets: Sets, h: Head, i: u16, u: u16) 
     )
 }
 
-// 17: "an edge's rule broken". The edges from nodes of the scope stand together.
-pub fn bad_steps(file: &[u8], trailer: Trailer, h: Head) -> bool
+// 17, 24 and 25, "an edge's rule broken": the least such edge, and the number of edges where there is none. The edges from nodes of the scope stand together.
+pub fn bad_steps(file: &[u8], trailer: Trailer, h: Head) -> u16
     requires { ⌜ Laid (now file) trailer ⌝ }
     requires { ⌜ Shaped (Files.caseOf (now file) trailer) ⌝ }
     requires { ⌜ Stands (now file) trailer h ⌝ }
     requires { ⌜ Whole (now file) h ⌝ }
     requires { ⌜ SoundRows (now file) trailer h ⌝ }
-    ensures { λ b. ⌜ b ≡ some (Facts.badStepAt (Files.caseOf (now (file .entry)) trailer) (factOf (now (file .entry)) h)) (trailer .edges) ⌝ }
+    ensures { λ r. ⌜ r ≡ least (Facts.badStepAt (Files.caseOf (now (file .entry)) trailer) (factOf (now (file .entry)) h)) (trailer .edges) ⌝ }
 {
     let sets = paper::sets_of(trailer.sets);
     let mut i = first_edge(file, trailer, h.first);
     while i < trailer.edges {
         let u = layout::from_at(file, trailer, i);
         if h.last < u {
-            return false;
+            return trailer.edges;
         }
         if bad_step(file, trailer, sets, h, i, u) {
-            return true;
+            return i;
         }
         i += 1;
     }
-    false
+    i
+}
+
+// Which of 24, 25 and 17 edge i breaks, where it breaks one: u's block and row tell. Only the one edge that is told is looked at again.
+pub fn step_number(file: &[u8], trailer: Trailer, h: Head, i: u16) -> u8
+    requires { ⌜ Laid (now file) trailer ⌝ }
+    requires { ⌜ Stands (now file) trailer h ⌝ }
+    requires { ⌜ Whole (now file) h ⌝ }
+    requires { ⌜ BadStep (now file) trailer h i ⌝ }
+    ensures { λ r. ⌜ r ≡ Facts.stepNumber (Files.caseOf (now (file .entry)) trailer) (factOf (now (file .entry)) h) i ⌝ }
+{
+    let u = layout::from_at(file, trailer, i);
+    if layout::node_at(file, trailer, u) == h.block {
+        return 24;
+    }
+    if layout::number_at(file, row_at(file, h, u - h.first)) == 8 {
+        return 25;
+    }
+    17
 }

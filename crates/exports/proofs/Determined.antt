@@ -15,11 +15,15 @@ use Rattle.exports.specs.Calls.{CheckCall, TraceCall, StepCall, BlockCal
 same : {A B : Type 0} (f : A → B) {v v′ : A} {x x′ : B} → v ≡ v′ → x ≡ f v → x′ ≡ f v′ → x ≡ x′
 same f e p q = p ∙ ap f e ∙ sym q
 
-module _ (file lent : List ℕ) (r r′ at at′ : ℕ) (after after′ : List ℕ) where
-  pub check-call-determined : CheckCall file lent r at after → CheckCall file lent r′ at′ after′ → (r ≡ r′) × (at ≡ at′) × (after ≡ after′)
+module _ (file lent : List ℕ) (r r′ at at′ within within′ : ℕ) (after after′ : List ℕ) where
+  pub check-call-determined : CheckCall file lent r at within after → CheckCall file lent r′ at′ within′ after′ → (r ≡ r′) × (at ≡ at′) × (within ≡ within′) × (after ≡ after′)
   check-call-determined p q =
-      let e = check-determined file lent _ _ _ _ (p .promise) (q .promise) in
-      (same (λ (v : Verdict). toldVerdict v .number) (e .0) (p .number) (q .number), same (λ (v : Verdict). toldVerdict v .place) (e .0) (p .place) (q .place), e .1)
+      let e = check-determined file lent _ _ _ _ (p .promise) (q .promise) in (
+        same (λ (v : Verdict). toldVerdict v .number) (e .0) (p .number) (q .number),
+        same (λ (v : Verdict). toldVerdict v .place) (e .0) (p .place) (q .place),
+        same (λ (v : Verdict). toldVerdict v .second) (e .0) (p .second) (q .second),
+        e .1,
+      )
 
 module _ (policy ways sets : ℕ) (blocks lent : List ℕ) (before r r′ counted counted′ at at′ : ℕ) (after after′ : List ℕ) where
   pub trace-call-determined : TraceCall policy ways sets blocks lent before r counted at after → TraceCall policy ways sets blocks lent before r′ counted′ at′ after′ →

@@ -10,18 +10,25 @@ use paper::SetState;
 use paper::TraceAnswer;
 use paper::Verdict;
 
-// The refusal's number, 0 where the file is accepted; `place` gets the refusal's place, or 0.
+// The refusal's number, 0 where the file is accepted; `place` and `second` get the refusal's places, or 0.
 #[no_mangle]
-pub extern "C" fn bolgverk_check(file: &[u8], numbers: &mut [u64], place: &mut u64) -> u8
-    ensures { λ r. ⌜ CheckCall (now (file .entry)) (now (numbers .entry)) r (now (place .exit)) (now (numbers .exit)) ⌝ }
+pub extern "C" fn bolgverk_check(
+    file: &[u8],
+    numbers: &mut [u64],
+    place: &mut u64,
+    second: &mut u64,
+) -> u8
+    ensures { λ r. ⌜ CheckCall (now (file .entry)) (now (numbers .entry)) r (now (place .exit)) (now (second .exit)) (now (numbers .exit)) ⌝ }
 {
     match bolgverk::check(file, numbers) {
         Verdict::Accepted => {
             *place = 0;
+            *second = 0;
             0
         }
         Verdict::Refused(broken) => {
             *place = broken.place as u64;
+            *second = broken.second as u64;
             broken.number
         }
     }

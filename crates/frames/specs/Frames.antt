@@ -27,9 +27,9 @@ use Rattle.frames.specs.declared.Head.{Head}
 use Rattle.frames.specs.Little.{little, littles, u16s, u64s}
 use Rattle.frames.specs.Places as Places
 
--- "the operation's byte, the refusal's number u8 (0: not refused), the refusal's place u64 (0 where not refused), and then": every answer's head
+-- "the operation's byte, the refusal's number u8 (0: not refused), the refusal's place u64 and its second place u64 (both 0 where not refused), and then": every answer's head
 unfoldable pub head : ℕ → Refusal → List ℕ
-head operation r = little 1 operation ++ (little 1 (r .number) ++ little 8 (r .place))
+head operation r = little 1 operation ++ (little 1 (r .number) ++ (little 8 (r .place) ++ little 8 (r .second)))
 
 -- the head, and a value of some width after it
 unfoldable pub front : ℕ → ℕ → Head → List ℕ

@@ -10,9 +10,9 @@ bits64 = 8
 abbrev pub linesWidth : ℕ
 linesWidth = 8 * bits16
 
--- "An answer is the operation's byte, the refusal's number u8 (0: not refused), the refusal's place u64 (0 where not refused), and then": every answer's head
+-- "An answer is the operation's byte, the refusal's number u8 (0: not refused), the refusal's place u64 and its second place u64 (both 0 where not refused), and then": every answer's head
 abbrev pub headSize : ℕ
-headSize = sizeOf (bits8 ∷ bits8 ∷ bits64 ∷ [])
+headSize = sizeOf (bits8 ∷ bits8 ∷ bits64 ∷ bits64 ∷ [])
 
 -- what follows it first: "0 for a hit, 1 for a miss, 2 for a refusal, u8", "the block u16", "the set u8", "the misses u64"
 abbrev pub outcomeWidth : ℕ

@@ -11,7 +11,7 @@ ghost use Rattle.print.specs.Put.{Put};
 ghost use Rattle.frames.specs.Frames as Frames;
 ghost use Rattle.frames.specs.Places.{headSize, lastSize};
 
-// What an operation says first: a refusal, number and place 0 where it does not refuse, and a value.
+// What an operation says first: a refusal, number and places 0 where it does not refuse, and a value.
 pub struct Head {
     pub refusal: Refusal,
     pub value: u64,
@@ -27,7 +27,8 @@ pub fn front(out: &mut [u8], at: usize, operation: u8, width: usize, h: Head) ->
     let refusal = h.refusal;
     let after_number = numbers::put(out, after_operation, 1, refusal.number as u64);
     let after_place = numbers::put(out, after_number, 8, refusal.place as u64);
-    numbers::put(out, after_place, width, h.value)
+    let after_second = numbers::put(out, after_place, 8, refusal.second as u64);
+    numbers::put(out, after_second, width, h.value)
 }
 
 // The last answer of all: the byte 0, why, and how many requests were answered before.

@@ -1,7 +1,7 @@
 // Where things lie in a request and in an answer, by name: the one place in code that has their sizes and offsets. specs/Places.antt has the definitions.
 
-// An answer's head: the operation, the refusal's number, its place.
-pub const HEAD_SIZE: usize = 10;
+// An answer's head: the operation, the refusal's number, its two places.
+pub const HEAD_SIZE: usize = 18;
 
 // What follows the head first: a step's outcome, a block, a set, the misses of a trace.
 pub const OUTCOME_WIDTH: usize = 1;

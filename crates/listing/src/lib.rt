@@ -45,7 +45,7 @@ fn accepted(out: &mut [u8; LONGEST], numbers: &[u64], sets: usize, facts: usize)
     lines(out, after_sets, b"fact ", numbers, FACTS_FROM, facts)
 }
 
-// "A refusal prints `refused`, number, place."
+// "A refusal prints `refused`, number, place." "A printed refusal ends with the second place."
 fn refused(out: &mut [u8; LONGEST], why: Refusal) -> usize
     ensures { λ r. ⌜ Listed.Printed (refusalLine why) (now (out .entry)) r (now (out .exit)) ⌝ }
 {
@@ -71,7 +71,7 @@ fn checked(file: &[u8], out: &mut [u8; LONGEST]) -> usize
     }
 }
 
-// "the program reads at most 65,536 bytes and prints `refused 28 0` for longer input"
+// "the program reads at most 65,536 bytes and prints `refused 28 0` for longer input", since the second place `refused 28 0 0`
 pub fn listing(input: &[u8], out: &mut [u8; LONGEST]) -> usize
     ensures { λ r. ⌜ Listed.Printed (listingOf (now (input .entry))) (now (out .entry)) r (now (out .exit)) ⌝ }
 {

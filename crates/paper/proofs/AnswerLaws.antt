@@ -14,7 +14,7 @@ use Rattle.paper.specs.declared.BlockAnswer.{BlockAnswer}
 use Rattle.paper.specs.declared.BlockAnswer.the-variants as BlockAnswers
 use Rattle.paper.specs.declared.SetAnswer.{SetAnswer}
 use Rattle.paper.specs.declared.SetAnswer.the-variants as SetAnswers
-use Rattle.paper.specs.Answers.{refuse, Told, toldVerdict, toldTrace, toldOutcome, toldBlock, toldSet}
+use Rattle.paper.specs.Answers.{refuseAt, Told, toldVerdict, toldTrace, toldOutcome, toldBlock, toldSet}
 
 -- The way back from what is told: a refusal, no value, a value.
 module _ {A : Type 0} (refused : Refusal → A) (plain : A) (valued : ℕ → A) where
@@ -24,7 +24,7 @@ module _ {A : Type 0} (refused : Refusal → A) (plain : A) (valued : ℕ → A)
   from r (some (n ∷ rest)) = valued n
 
   abbrev answer : Told → A
-  answer t = from (refuse (t .number) (t .place)) (t .values)
+  answer t = from (refuseAt (t .number) (t .place) (t .second)) (t .values)
 
   -- answers that tell the same are the same, since each is got back
   same : (told : A → Told) → ((r : A) → answer (told r) ≡ r) → (r r′ : A) → told r ≡ told r′ → r ≡ r′

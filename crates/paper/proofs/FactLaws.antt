@@ -1,20 +1,21 @@
--- What the rules 12, 14 and 16 to 18 say of a whole fact, both ways.
+-- What the rules 12, 14, 16 to 18, 24 and 25 say of a whole fact, both ways.
 use Prim.Native.Nat.{ℕ, _+_, _-_, _≤_, _<_}
 use native.Mathlib.Omega.{arith}
 use mathlib.Core.Path.{_≡_, refl, _∙_, ap, subst}
 use mathlib.Core.Logic.{_⊎_, inl, inr, _↔_}
-use mathlib.Core.Bool.{false}
+use mathlib.Core.Bool.{Bool, true, false}
 use borrow.Author.Tests.{not-false}
 use Rattle.paper.specs.declared.Verdict.{Verdict}
 use Rattle.paper.specs.declared.Verdict.the-variants.{Accepted}
 use Rattle.paper.specs.Machines.{none}
+use Rattle.paper.specs.Lists.{least, some}
 use Rattle.paper.specs.Cases.{Fact, Case, size, scopeOf, rowOf, fetches}
-use Rattle.paper.specs.Facts.{wrongHead, badHead, unfetched, badRowAt, breaks, badStepAt, badManyAt}
+use Rattle.paper.specs.Facts.{wrongHead, badHead, unfetched, badRowAt, breaks, badStepAt, badManyAt, leastNode}
 use Rattle.paper.specs.Rules.{Passes}
 use Rattle.paper.specs.Verdicts.{rowRules, stepRules, manyRules, evidenceRules}
-use Rattle.paper.proofs.Least.{None, none-some, some-none, is-some}
+use Rattle.paper.proofs.Least.{None, none-some, some-none, is-some, least-is}
 use Rattle.paper.proofs.Says.{Says, says-lt, says-le, says-eq, says-not, says-and, says-or, says-some, says-false, says-true}
-use Rattle.paper.proofs.RuleLaws.{past}
+use Rattle.paper.proofs.RuleLaws.{past-by}
 use Rattle.paper.proofs.Meaning.{In, SoundRow, EdgeRule, SoundEvidence, SoundHead}
 use Rattle.paper.proofs.GraphLaws.{inside-says}
 use Rattle.paper.proofs.RowLaws.{row-law, edge-law, breaks-says}
@@ -58,6 +59,19 @@ module _ (e : Case) (t : Fact) where
   within : (j : ℕ) → j < size (scopeOf e t) → In (scopeOf e t) (first + j)
   within j h = (omega arith, omega arith)
 
+  -- "16 and 18 add the least such node": it is in the scope, the test holds there, and at no node of the scope before it
+  pub least-node : (p : ℕ → Bool) → some p (size (scopeOf e t)) ≡ true →
+      In (scopeOf e t) (leastNode e t p) × (p (leastNode e t p - first) ≡ true) × ((v : ℕ) → In (scopeOf e t) v → v < leastNode e t p → p (v - first) ≡ false)
+  unfolding leastNode
+  least-node p h =
+      let w = is-some p (size (scopeOf e t)) h in
+      let z = least-is p (size (scopeOf e t)) w in
+      let at : first + least p (size (scopeOf e t)) ≡ first + w .at = ap (λ (n : ℕ). first + n) z in (
+        rw at (within (w .at) (w .below)),
+        rw (at, place (w .at)) (w .holds),
+        λ v i l. w .none (v - first) (omega arith),
+      )
+
   -- 14
   pub unfetched-says : Says (¬ ((j : ℕ) × (j < size (scopeOf e t)) × (e .block (first + j) ≡ t .block))) (unfetched e t)
   unfolding unfetched
@@ -89,7 +103,7 @@ module _ (e : Case) (t : Fact) where
   unfolding badManyAt
   many-says j = says-and (fetches-says j) (says-eq _ _)
 
-  -- no row, edge or node breaks one of the rules 16 to 18
+  -- no row, edge or node breaks one of the rules 16 to 18, 24 and 25
   record KeptEvidence : Type 0 where
     rows : None (badRowAt e t) (size (scopeOf e t))
     edges : None (badStepAt e t) (e .edges)
@@ -122,12 +136,12 @@ module _ (e : Case) (t : Fact) where
   pub evidence-kept : (i : ℕ) (rest : Verdict) → evidenceRules e i t rest ≡ Accepted → SoundEvidence e t × (rest ≡ Accepted)
   unfolding rowRules stepRules manyRules
   evidence-kept i rest h =
-      let a = past 16 i _ _ h in
-      let b = past 17 i _ _ (a .1) in
-      let c = past 18 i _ _ (b .1) in
+      let a = past-by _ _ _ h in
+      let b = past-by _ _ _ (a .1) in
+      let c = past-by _ _ _ (b .1) in
       (kept-sound (record { rows = none-some _ _ (a .0); edges = none-some _ _ (b .0); many = none-some _ _ (c .0) }), c .1)
 
-  -- The rows pass 16 to 18, at whatever place, exactly when they are sound evidence.
+  -- The rows pass 16 to 18, 24 and 25, at whatever place, exactly when they are sound evidence.
   pub evidence-law : (i : ℕ) → Passes (evidenceRules e i t) ↔ SoundEvidence e t
   unfolding rowRules stepRules manyRules
   evidence-law i = (

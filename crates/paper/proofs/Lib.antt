@@ -24,5 +24,6 @@ pub mod Sections
 pub mod SameGraphs
 pub mod SameFacts
 pub mod AnswerLaws
+pub mod SecondPlaces
 pub mod RefusalLaws
 pub mod Homes

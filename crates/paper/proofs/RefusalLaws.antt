@@ -1,7 +1,8 @@
--- No refusal has a number that stands for something else: 0 where nothing is refused, 0 and 1 for a step's hit and miss.
+-- No refusal has a number that stands for something else: 0 where nothing is refused, 0 and 1 for a step's hit and miss. And "an accepted file's second place is 0, and so is that of every refusal not named".
 use Prim.Native.Nat.{ℕ, zero, suc, _+_, _≤_, _/_, _%_}
 use native.Mathlib.Omega.{arith}
-use mathlib.Core.Path.{_≡_, refl}
+use mathlib.Core.Path.{_≡_, refl, ap}
+use mathlib.Core.Logic.{_⊎_, inl, inr, ⊎-elim}
 use mathlib.Core.Bool.{Bool, true, false, cond, not}
 use mathlib.Core.List.{List, [], _∷_}
 use mathlib.Core.Option.{none}
@@ -14,31 +15,39 @@ use Rattle.paper.specs.declared.Address.{Address}
 use Rattle.paper.specs.declared.Block.{Block}
 use Rattle.paper.specs.declared.StepAnswer.{StepAnswer}
 use Rattle.paper.specs.declared.Verdict.{Verdict}
-use Rattle.paper.specs.declared.Verdict.the-variants.{Accepted}
+use Rattle.paper.specs.declared.Verdict.the-variants.{Accepted, Refused}
 use Rattle.paper.specs.declared.Outcome.the-variants.{Hit, Miss}
 use Rattle.paper.specs.declared.BlockAnswer.the-variants as BlockAnswers
 use Rattle.paper.specs.declared.SetAnswer.the-variants as SetAnswers
-use Rattle.paper.specs.Answers.{refuse, tells, Told, toldVerdict, toldTrace, toldOutcome, toldBlock, toldSet}
+use Rattle.paper.specs.Answers.{refuseAt, refuse, tells, Told, toldVerdict, toldTrace, toldOutcome, toldBlock, toldSet}
 use Rattle.paper.specs.Lists.{least, some}
 use Rattle.paper.specs.Machines.{emptySet, step, offered, setCount, legal, inRange}
 use Rattle.paper.specs.Operations.{refusedStep, stepAnswer, lineSize, blockAnswer, setAnswer}
 use Rattle.paper.specs.Traces.{Run, refusedRun, tookRun, badAccess, marks, traceRun}
 use Rattle.paper.specs.Graphs.{badEdge, badLoop, badEntry, badReturn, badCount}
-use Rattle.paper.specs.Cases.{Case, size, scopeOf}
-use Rattle.paper.specs.Facts.{nonePrevious, previousOf, badHead, badOrder, unfetched, badRowAt, badStepAt, badManyAt}
+use Rattle.paper.specs.Cases.{Fact, Case, size, scopeOf}
+use Rattle.paper.specs.Facts.{nonePrevious, previousOf, badHead, badOrder, unfetched, badRowAt, afterB, afterMany, brokenBy, badStepAt, stepNumber, badManyAt}
 use Rattle.paper.specs.Files.{endAt, trailerOf, badLetters, badCache, badNumbers, badOffsets, factsAt, factAt, factEnd, factPlace, caseOf, readCase}
-use Rattle.paper.specs.Rules.{refused, rule}
+use Rattle.paper.specs.Rules.{refused, ruleBy, rule}
 use Rattle.paper.specs.Verdicts.{layoutRules, shapeRules, pathRules, countRules, graphRules, headRule, orderRule, fetchRule, rowRules, stepRules, manyRules, bodyRules, turnRules, turnsFrom, factRules, verdict}
 
--- where something is refused, the number is at least `low`
+-- the refusals that have a second place: 16, 17, 18, 24 and 25
+abbrev pub OfEvidence : ℕ → Type 0
+OfEvidence number = ((16 ≤ number) × (number ≤ 18)) ⊎ ((24 ≤ number) × (number ≤ 25))
+
+-- where something is refused, the number is at least `low`; a second place is that of a fact's evidence
 module _ {A : Type 0} (low : ℕ) (told : A → Told) where
   pub record Numbered (v : A) : Type 0 where
     pub refused : told v .values ≡ none → low ≤ told v .number
+    pub second : (told v .second ≡ 0) ⊎ OfEvidence (told v .number)
 
   -- one test, then the rest
-  numbered : (b : Bool) (x : A) {rest : A} → low ≤ told x .number → Numbered rest → Numbered (cond b x rest)
-  numbered true x l p = record { refused = λ e. l }
-  numbered false x l p = p
+  numbered-with : (b : Bool) (x : A) {rest : A} → low ≤ told x .number → (told x .second ≡ 0) ⊎ OfEvidence (told x .number) → Numbered rest → Numbered (cond b x rest)
+  numbered-with true x l s p = record { refused = λ e. l; second = s }
+  numbered-with false x l s p = p
+
+  numbered : (b : Bool) (x : A) {rest : A} → low ≤ told x .number → told x .second ≡ 0 → Numbered rest → Numbered (cond b x rest)
+  numbered b x l s p = numbered-with b x l (inl s) p
 
   plain : (v : A) (values : List ℕ) → told v ≡ tells values → Numbered v
   plain v values e =
@@ -46,11 +55,27 @@ module _ {A : Type 0} (low : ℕ) (told : A → Told) where
         refused = λ h.
             let z : _≡_ {A = ℕ} 0 1 = cc in
             absurd (omega arith);
+        second = inl (ap (λ (t : Told). t .second) e);
       }
 
 -- a rule, whatever its place, and a chain of them
 one : (n place : ℕ) (bad : Bool) {rest : Verdict} → Numbered 1 toldVerdict rest → Numbered 1 toldVerdict (rule (suc n) place bad rest)
-one n place bad p = numbered 1 toldVerdict bad (refused (suc n) place) (omega arith) p
+one n place bad p = numbered 1 toldVerdict bad (refused (suc n) place) (omega arith) refl p
+
+-- a rule of a fact's evidence, with both places
+at-second : (n place second : ℕ) (bad : Bool) {rest : Verdict} → OfEvidence n → Numbered 1 toldVerdict rest → Numbered 1 toldVerdict (ruleBy (refuseAt n place second) bad rest)
+at-second n place second bad o p =
+    numbered-with 1 toldVerdict bad (Refused (refuseAt n place second)) (⊎-elim (λ h. omega arith) (λ h. omega arith) o) (inr o) p
+
+-- 17, 24 or 25
+step-number : (e : Case) (t : Fact) (i : ℕ) → OfEvidence (stepNumber e t i)
+unfolding stepNumber brokenBy
+step-number e t i = go (afterB e t _ _) (afterMany e t _ _ _)
+  where
+    go : (a b : Bool) → OfEvidence (cond a 24 (cond b 25 17))
+    go true b = inr (omega arith)
+    go false true = inr (omega arith)
+    go false false = inl (omega arith)
 
 module _ (e : Case) where
   graph-numbered : (rest : Verdict) → Numbered 1 toldVerdict rest → Numbered 1 toldVerdict (graphRules e rest)
@@ -71,8 +96,9 @@ module _ (f : List ℕ) (trailer : Trailer) where
       (one 12 i (badOrder e previous s)
       (one 13 i (unfetched e s)
       (one 14 i (ltb (endAt f) (factEnd f trailer p))
-      (one 15 i (some (badRowAt e s) (size (scopeOf e s)))
-      (one 16 i (some (badStepAt e s) (e .edges)) (one 17 i (some (badManyAt e s) (size (scopeOf e s))) h)))))))
+      (at-second 16 i _ (some (badRowAt e s) (size (scopeOf e s))) (inl (omega arith))
+      (at-second _ i _ (some (badStepAt e s) (e .edges)) (step-number e s _)
+      (at-second 18 i _ (some (badManyAt e s) (size (scopeOf e s))) (inl (omega arith)) h)))))))
 
   turns-numbered : (n i : ℕ) (previous : Previous) (p : ℕ) (rest : Verdict) → Numbered 1 toldVerdict rest → Numbered 1 toldVerdict (turnsFrom f trailer n i previous p rest)
   unfolding turnsFrom
@@ -102,9 +128,9 @@ pub trace-numbered : (policy k sets : ℕ) (blocks lent : List ℕ) → Numbered
 unfolding traceRun
 trace-numbered policy k sets blocks lent =
     let n = length blocks in
-    numbered 1 runTold (not (inRange policy k sets)) (refusedRun 3 0 lent) (omega arith)
-    (numbered 1 runTold (ltb (length lent) n) (refusedRun 20 0 lent) (omega arith)
-    (numbered 1 runTold (some (badAccess blocks) n) (refusedRun 21 (least (badAccess blocks) n) lent) (omega arith)
+    numbered 1 runTold (not (inRange policy k sets)) (refusedRun 3 0 lent) (omega arith) refl
+    (numbered 1 runTold (ltb (length lent) n) (refusedRun 20 0 lent) (omega arith) refl
+    (numbered 1 runTold (some (badAccess blocks) n) (refusedRun 21 (least (badAccess blocks) n) lent) (omega arith) refl
     (plain 1 runTold (tookRun (marks policy k sets (λ q. emptySet) blocks) lent) _ refl)))
 
 abbrev pub stepTold : StepAnswer → Told
@@ -119,20 +145,20 @@ pub step-numbered : (policy k : ℕ) (s : SetState) (b : Block) → Numbered 2 s
 unfolding stepAnswer
 step-numbered policy k s b =
     let t = step policy k s (b .0) in
-    numbered 2 stepTold (not (offered policy k)) (refusedStep s 3) (omega arith)
-    (numbered 2 stepTold (not (legal policy k s)) (refusedStep s 22) (omega arith)
-    (numbered 2 stepTold (eqb (b .0) 65535) (refusedStep s 21) (omega arith) (took (t .hit) (t .state))))
+    numbered 2 stepTold (not (offered policy k)) (refusedStep s 3) (omega arith) refl
+    (numbered 2 stepTold (not (legal policy k s)) (refusedStep s 22) (omega arith) refl
+    (numbered 2 stepTold (eqb (b .0) 65535) (refusedStep s 21) (omega arith) refl (took (t .hit) (t .state))))
 
 pub block-numbered : (a : Address) (n : ℕ) → Numbered 1 toldBlock (blockAnswer a n)
 unfolding blockAnswer
 block-numbered a n =
-    numbered 1 toldBlock (not (lineSize n)) (BlockAnswers.Refused (refuse 23 0)) (omega arith)
-    (numbered 1 toldBlock (ltb 65534 (a .0 / n)) (BlockAnswers.Refused (refuse 21 0)) (omega arith)
+    numbered 1 toldBlock (not (lineSize n)) (BlockAnswers.Refused (refuse 23 0)) (omega arith) refl
+    (numbered 1 toldBlock (ltb 65534 (a .0 / n)) (BlockAnswers.Refused (refuse 21 0)) (omega arith) refl
     (plain 1 toldBlock (BlockAnswers.Found (record { 0 = a .0 / n })) _ refl))
 
 pub set-numbered : (b : Block) (sets : ℕ) → Numbered 1 toldSet (setAnswer b sets)
 unfolding setAnswer
 set-numbered b sets =
-    numbered 1 toldSet (not (setCount sets)) (SetAnswers.Refused (refuse 3 0)) (omega arith)
-    (numbered 1 toldSet (eqb (b .0) 65535) (SetAnswers.Refused (refuse 21 0)) (omega arith)
+    numbered 1 toldSet (not (setCount sets)) (SetAnswers.Refused (refuse 3 0)) (omega arith) refl
+    (numbered 1 toldSet (eqb (b .0) 65535) (SetAnswers.Refused (refuse 21 0)) (omega arith) refl
     (plain 1 toldSet (SetAnswers.Found (record { 0 = b .0 % sets })) _ refl))

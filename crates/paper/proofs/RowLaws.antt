@@ -1,18 +1,19 @@
--- What the tests of the rules 12, 14 and 16 to 18 say, both ways.
+-- What the tests of the rules 12, 14, 16 to 18, 24 and 25 say, both ways.
 use Prim.Native.Nat.{ℕ, zero, suc, _+_, _-_, _%_, _≤_, _<_}
 use native.Mathlib.Omega.{arith}
 use native.Mathlib.Decide.{decLt}
 use mathlib.Core.Path.{_≡_, refl, sym, _∙_, ap, subst}
 use mathlib.Core.Logic.{_≢_, _⊎_, inl, inr, ⊎-elim, _↔_}
-use mathlib.Core.Bool.{Bool, true, false}
-use borrow.Author.Tests.{lt-ltb, le-ltb}
+use mathlib.Core.Bool.{Bool, true, false, cond}
+use borrow.Author.Tests.{lt-ltb, le-ltb, eq-eqb, ne-eqb}
+use lib.Dec.{eqb}
 use Rattle.paper.specs.Machines.{none}
 use Rattle.paper.specs.Cases.{Row, Fact, Case, inside, size, scopeOf, rowOf, sameSet, fetches}
 use Rattle.paper.specs.Walks.{Edge}
-use Rattle.paper.specs.Facts.{held, holds, badHead, unfetched, badSlot, badRow, badRowAt, lacks, breaks, badStepAt, badManyAt}
+use Rattle.paper.specs.Facts.{held, holds, badHead, unfetched, badSlot, badRow, badRowAt, lacks, afterB, afterMany, afterSet, breaks, brokenBy, badStepAt, badManyAt}
 use Rattle.paper.specs.Demands.{Other}
 use Rattle.paper.proofs.Least.{None}
-use Rattle.paper.proofs.Says.{Says, says-lt, says-le, says-eq, says-not, says-and, says-or, says-some, says-no, says-cond, says-false, says-stable}
+use Rattle.paper.proofs.Says.{Says, says-lt, says-le, says-eq, says-not, says-and, says-or, says-some, says-cond, says-false, says-true, says-is, says-stable}
 use Rattle.paper.proofs.Meaning.{In, Holds, SoundRow, Carried, EdgeRule, SoundEvidence, SoundHead}
 use Rattle.paper.proofs.GraphLaws.{inside-says}
 
@@ -111,34 +112,48 @@ module _ (e : Case) (t : Fact) where
       says-or (says-some (λ k. says-not (holds-says s (r .slot k))) (held r))
       (says-and (says-not (says-eq _ _)) (says-and (sameSet-says e _ _) (says-not (holds-says s x))))
 
+  -- 24, 25 and 17 of an edge
+  abbrev AfterB : ℕ → Row → Type 0
+  AfterB x s = (x ≡ t .block) × (s .number ≡ 9)
+
+  abbrev AfterMany : ℕ → Row → Row → Type 0
+  AfterMany x r s = ¬ (x ≡ t .block) × ((r .number ≡ 8) × ¬ (s .number ≡ 8))
+
+  abbrev AfterSet : ℕ → Row → Row → Type 0
+  AfterSet x r s = (¬ (x ≡ t .block) × (¬ (r .number ≡ 9) × ¬ (r .number ≡ 8))) × (¬ (s .number ≡ 8) × ((8 ≤ s .number) ⊎ Lacks x r s))
+
+  pub afterB-says : (x : ℕ) (s : Row) → Says (AfterB x s) (afterB e t x s)
+  unfolding afterB
+  afterB-says x s = says-and (says-eq _ _) (says-eq _ _)
+
+  pub afterMany-says : (x : ℕ) (r s : Row) → Says (AfterMany x r s) (afterMany e t x r s)
+  unfolding afterMany
+  afterMany-says x r s = says-and (says-not (says-eq _ _)) (says-and (says-eq _ _) (says-not (says-eq _ _)))
+
+  pub afterSet-says : (x : ℕ) (r s : Row) → Says (AfterSet x r s) (afterSet e t x r s)
+  unfolding afterSet
+  afterSet-says x r s =
+      says-and (says-and (says-not (says-eq _ _)) (says-and (says-not (says-eq _ _)) (says-not (says-eq _ _))))
+      (says-and (says-not (says-eq _ _)) (says-or (says-le _ _) (lacks-says x r s)))
+
   abbrev pub Breaks : ℕ → Row → Row → Type 0
-  Breaks x r s =
-      ((x ≡ t .block) × (s .number ≡ 9))
-      ⊎ (¬ (x ≡ t .block)
-      × (((r .number ≡ 9) × ⊥)
-      ⊎ (¬ (r .number ≡ 9)
-      × (((r .number ≡ 8) × ¬ (s .number ≡ 8))
-      ⊎ (¬ (r .number ≡ 8) × (((s .number ≡ 8) × ⊥) ⊎ (¬ (s .number ≡ 8) × ((8 ≤ s .number) ⊎ Lacks x r s))))))))
+  Breaks x r s = AfterB x s ⊎ (AfterMany x r s ⊎ AfterSet x r s)
 
   pub breaks-says : (x : ℕ) (r s : Row) → Says (Breaks x r s) (breaks e t x r s)
   unfolding breaks
-  breaks-says x r s =
-      says-cond (says-eq _ _) (says-eq _ _)
-      (says-cond (says-eq _ _) says-no
-      (says-cond (says-eq _ _) (says-not (says-eq _ _))
-      (says-cond (says-eq _ _) says-no (says-or (says-le _ _) (lacks-says x r s)))))
+  breaks-says x r s = says-or (afterB-says x s) (says-or (afterMany-says x r s) (afterSet-says x r s))
 
   module _ (x : ℕ) (r s : Row) where
     keeps-rule : ¬ Breaks x r s → EdgeRule e t x r s
     keeps-rule n =
         record {
           after-b = λ p q. n (inl (p, q));
-          other = λ p q m. carried p q m (λ z. n (inr (p, inr (q, inl (z, m)))));
+          other = λ p q m. carried p q m (λ z. n (inr (inl (p, (z, m)))));
         }
       where
         carried : x ≢ t .block → r .number ≢ 9 → s .number ≢ 8 → r .number ≢ 8 → Carried e t x r s
         carried p q m z =
-            let n′ : ¬ ((8 ≤ s .number) ⊎ Lacks x r s) = λ w. n (inr (p, inr (q, inr (z, inr (m, w))))) in
+            let n′ : ¬ ((8 ≤ s .number) ⊎ Lacks x r s) = λ w. n (inr (inr ((p, (q, z)), (m, w)))) in
             record {
               set-before = z;
               set-after = let l : ¬ (8 ≤ s .number) = λ w. n′ (inl w) in omega arith;
@@ -148,18 +163,63 @@ module _ (e : Case) (t : Fact) where
 
     rule-keeps : EdgeRule e t x r s → ¬ Breaks x r s
     rule-keeps c b =
-        ⊎-elim (λ p. c .after-b (p .0) (p .1)) (λ p. ⊎-elim (λ q. q .1) (λ q. other (p .0) (q .0) (q .1)) (p .1)) b
+        ⊎-elim (λ p. c .after-b (p .0) (p .1)) (λ p. ⊎-elim many (λ q. set (q .0 .0) (q .0 .1 .0) (q .1 .0) (q .1 .1)) p) b
       where
-        other : x ≢ t .block → r .number ≢ 9 →
-            ¬ (((r .number ≡ 8) × ¬ (s .number ≡ 8)) ⊎ (¬ (r .number ≡ 8) × (((s .number ≡ 8) × ⊥) ⊎ (¬ (s .number ≡ 8) × ((8 ≤ s .number) ⊎ Lacks x r s)))))
-        other p q w =
-            ⊎-elim (λ y. c .other p q (y .1) .set-before (y .0)) (λ y. ⊎-elim (λ z. z .1) (λ z. lack (z .0) (z .1)) (y .1)) w
-          where
-            lack : s .number ≢ 8 → ¬ ((8 ≤ s .number) ⊎ Lacks x r s)
-            lack m v =
-                let k = c .other p q m in
-                ⊎-elim (λ l. omega (arith, k .set-after)) (λ l. ⊎-elim (λ y. y .2 (k .keeps (y .0) (y .1))) (λ y. y .1 .1 (k .adds (p, y .0, y .1 .0))) l) v
+        many : ¬ AfterMany x r s
+        many q = let n : r .number ≢ 9 = omega arith in c .other (q .0) n (q .1 .1) .set-before (q .1 .0)
+
+        set : x ≢ t .block → r .number ≢ 9 → s .number ≢ 8 → ¬ ((8 ≤ s .number) ⊎ Lacks x r s)
+        set p q m v =
+            let k = c .other p q m in
+            ⊎-elim (λ l. omega (arith, k .set-after)) (λ l. ⊎-elim (λ y. y .2 (k .keeps (y .0) (y .1))) (λ y. y .1 .1 (k .adds (p, y .0, y .1 .0))) l) v
 
     -- the edge rule
     pub edge-law : (breaks e t x r s ≡ false) ↔ EdgeRule e t x r s
     edge-law = (λ h. keeps-rule (says-false (breaks-says x r s) .0 h), λ c. says-false (breaks-says x r s) .1 (rule-keeps c))
+
+    -- "an edge can break only one of the three"
+    pub only-b : afterB e t x s ≡ true → (afterMany e t x r s ≡ false) × (afterSet e t x r s ≡ false)
+    only-b h =
+        let w = says-true (afterB-says x s) h in (
+          says-false (afterMany-says x r s) .1 (λ p. p .0 (w .0)),
+          says-false (afterSet-says x r s) .1 (λ p. p .0 .0 (w .0)),
+        )
+
+    pub only-many : afterMany e t x r s ≡ true → (afterB e t x s ≡ false) × (afterSet e t x r s ≡ false)
+    only-many h =
+        let w = says-true (afterMany-says x r s) h in (
+          says-false (afterB-says x s) .1 (λ p. w .0 (p .0)),
+          says-false (afterSet-says x r s) .1 (λ p. p .0 .1 .1 (w .1 .0)),
+        )
+
+    pub only-set : afterSet e t x r s ≡ true → (afterB e t x s ≡ false) × (afterMany e t x r s ≡ false)
+    only-set h =
+        let w = says-true (afterSet-says x r s) h in (
+          says-false (afterB-says x s) .1 (λ p. w .0 .0 (p .0)),
+          says-false (afterMany-says x r s) .1 (λ p. w .0 .1 .1 (p .1 .0)),
+        )
+
+    -- its number is that of the one it breaks
+    pub by-b : afterB e t x s ≡ true → brokenBy e t x r s ≡ 24
+    unfolding brokenBy
+    by-b h = ap (λ (b : Bool). cond b 24 (cond (afterMany e t x r s) 25 17)) h
+
+    pub by-many : afterMany e t x r s ≡ true → brokenBy e t x r s ≡ 25
+    unfolding brokenBy
+    by-many h = rw (only-many h .0, h)
+
+    pub by-set : afterSet e t x r s ≡ true → brokenBy e t x r s ≡ 17
+    unfolding brokenBy
+    by-set h = rw (only-set h .0, only-set h .1)
+
+    -- of an edge that breaks one of the three, u's block and row tell which
+    pub broken-by : breaks e t x r s ≡ true → brokenBy e t x r s ≡ cond (eqb x (t .block)) 24 (cond (eqb (r .number) 8) 25 17)
+    broken-by h =
+        ⊎-elim
+        (λ p. by-b (says-is (afterB-says x s) p) ∙ rw (eq-eqb x (t .block) (p .0)) refl)
+        (λ q.
+        ⊎-elim
+        (λ p. by-many (says-is (afterMany-says x r s) p) ∙ rw (ne-eqb x (t .block) (p .0), eq-eqb (r .number) 8 (p .1 .0)) refl)
+        (λ p. by-set (says-is (afterSet-says x r s) p) ∙ rw (ne-eqb x (t .block) (p .0 .0), ne-eqb (r .number) 8 (p .0 .1 .1)) refl)
+        q)
+        (says-true (breaks-says x r s) h)

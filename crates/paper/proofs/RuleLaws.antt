@@ -10,30 +10,33 @@ use Rattle.paper.specs.declared.Verdict.{Verdict}
 use Rattle.paper.specs.declared.Verdict.the-variants.{Accepted, Refused}
 use Rattle.paper.specs.Answers.{refuse}
 use Rattle.paper.specs.Lists.{least, some}
-use Rattle.paper.specs.Rules.{rule, ruleAt}
+use Rattle.paper.specs.Rules.{ruleBy, rule, ruleAt}
 
 pub never : {P : Type 0} (r : Refusal) → Refused r ≡ Accepted → P
 never r e = let z : _≡_ {A = ℕ} 0 1 = cc in absurd (omega arith)
 
 -- what an accepted chain says of its first rule, and of the rest
+pub past-by : (r : Refusal) (broken : Bool) (rest : Verdict) → ruleBy r broken rest ≡ Accepted → (broken ≡ false) × (rest ≡ Accepted)
+past-by r true rest h = never _ h
+past-by r false rest h = (refl, h)
+
 pub past : (number place : ℕ) (broken : Bool) (rest : Verdict) → rule number place broken rest ≡ Accepted → (broken ≡ false) × (rest ≡ Accepted)
-past number place true rest h = never _ h
-past number place false rest h = (refl, h)
+past number place broken rest h = past-by (refuse number place) broken rest h
 
 -- a rule by the outcome b of its test: where it is kept the verdict is that of the rest, where it is broken the file is refused
-module _ (number place : ℕ) (broken : Bool) (rest : Verdict) (b : Bool) (e : b ≡ broken) where
-  pub passes : (v : Verdict) → b ≡ false → v ≡ rest → v ≡ rule number place broken rest
+module _ (why : Refusal) (broken : Bool) (rest : Verdict) (b : Bool) (e : b ≡ broken) where
+  pub passes : (v : Verdict) → b ≡ false → v ≡ rest → v ≡ ruleBy why broken rest
   passes v h s = rw (← e, h) s
 
-  pub stops : (r : Refusal) → b ≡ true → r ≡ refuse number place → Refused r ≡ rule number place broken rest
+  pub stops : (r : Refusal) → b ≡ true → r ≡ why → Refused r ≡ ruleBy why broken rest
   stops r h s = rw (← e, h) (ap Refused s)
 
 -- a rule that compares two numbers
-module _ (number place a b : ℕ) (rest : Verdict) where
-  pub passes-lt : (v : Verdict) → b ≤ a → v ≡ rest → v ≡ rule number place (ltb a b) rest
+module _ (why : Refusal) (a b : ℕ) (rest : Verdict) where
+  pub passes-lt : (v : Verdict) → b ≤ a → v ≡ rest → v ≡ ruleBy why (ltb a b) rest
   passes-lt v h s = rw (le-ltb a b h) s
 
-  pub stops-lt : (r : Refusal) → a < b → r ≡ refuse number place → Refused r ≡ rule number place (ltb a b) rest
+  pub stops-lt : (r : Refusal) → a < b → r ≡ why → Refused r ≡ ruleBy why (ltb a b) rest
   stops-lt r h s = rw (lt-ltb a b h) (ap Refused s)
 
 -- a rule whose least place is i
@@ -62,9 +65,12 @@ follow (Refused r) rest = Refused r
 abbrev pub Hands : (Verdict → Verdict) → Type 0
 Hands chain = (rest : Verdict) → chain rest ≡ follow (chain Accepted) rest
 
+pub hands-by : (r : Refusal) (broken : Bool) → Hands (ruleBy r broken)
+hands-by r true rest = refl
+hands-by r false rest = refl
+
 pub hands-rule : (number place : ℕ) (broken : Bool) → Hands (rule number place broken)
-hands-rule number place true rest = refl
-hands-rule number place false rest = refl
+hands-rule number place broken = hands-by (refuse number place) broken
 
 regroup : (v w rest : Verdict) → follow v (follow w rest) ≡ follow (follow v w) rest
 regroup Accepted w rest = refl

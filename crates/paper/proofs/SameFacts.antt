@@ -1,20 +1,21 @@
 -- In two cases with the same graph, two facts with the same head and the same rows break the same of the rules 12, 14 and 16 to 18.
 use Prim.Native.Nat.{ℕ, _+_, _-_, _≤_, _<_}
 use native.Mathlib.Omega.{arith}
-use mathlib.Core.Path.{_≡_, refl, _∙_, ap, subst}
-use mathlib.Core.Logic.{_≢_}
+use mathlib.Core.Path.{_≡_, refl, sym, _∙_, ap, subst}
+use mathlib.Core.Logic.{_≢_, _↔_}
 use mathlib.Core.Bool.{Bool, true, false, cond, not, _&&_}
 use lib.Dec.{eqb, ltb}
 use Rattle.paper.specs.declared.Loop.{Loop}
-use Rattle.paper.specs.declared.Verdict.{Verdict}
 use Rattle.paper.specs.Lists.{some}
 use Rattle.paper.specs.Machines.{none}
 use Rattle.paper.specs.Cases.{Row, Fact, Case, inside, size, scopeOf, rowOf, sameSet, fetches}
 use Rattle.paper.specs.Known.{Shaped}
+use Rattle.paper.specs.Rules.{Passes}
 use Rattle.paper.specs.Verdicts.{rowRules, stepRules, manyRules, evidenceRules}
-use Rattle.paper.specs.Facts.{held, holds, wrongHead, badHead, unfetched, badSlot, badRow, badRowAt, lacks, breaks, badStepAt, badManyAt}
+use Rattle.paper.specs.Facts.{held, holds, wrongHead, badHead, unfetched, badSlot, badRow, badRowAt, lacks, afterB, afterMany, afterSet, breaks, badStepAt, badManyAt}
 use Rattle.paper.proofs.Least.{some-same}
 use Rattle.paper.proofs.Says.{says-true}
+use Rattle.paper.proofs.RuleLaws.{past-by}
 use Rattle.paper.proofs.Meaning.{In}
 use Rattle.paper.proofs.GraphLaws.{inside-says}
 use Rattle.paper.proofs.RowLaws.{held-low}
@@ -70,7 +71,7 @@ module _ (e d : Case) (s : SameGraph e d) (t u : Fact) (f : SameFact (size (scop
     lacks-same = rw (keeps-same, holds-same q q′ b x, s .sets, f .block) refl
 
     breaks-same : breaks e t x r q ≡ breaks d u x r′ q′
-    unfolding breaks
+    unfolding breaks afterB afterMany afterSet
     breaks-same = rw (lacks-same, a .number, b .number, f .block) refl
 
   module _ (shaped : Shaped e) (some-node : 1 ≤ e .nodes) (there : t .scope ≢ none → t .scope < e .loops) where
@@ -119,13 +120,21 @@ module _ (e d : Case) (s : SameGraph e d) (t u : Fact) (f : SameFact (size (scop
     unfolding badRowAt
     row-at j l = row-same (t .row j) (u .row j) (f .rows j l)
 
-    pub evidence-same : (i : ℕ) (rest : Verdict) → evidenceRules e i t rest ≡ evidenceRules d i u rest
+    pub evidence-same : (i : ℕ) → Passes (evidenceRules e i t) ↔ Passes (evidenceRules d i u)
     unfolding rowRules stepRules manyRules
-    evidence-same i rest =
+    evidence-same i =
         let rows : some (badRowAt e t) (size (scopeOf e t)) ≡ some (badRowAt d u) (size (scopeOf d u))
         = some-same _ _ (size (scopeOf e t)) row-at ∙ ap (λ (l : Loop). some (badRowAt d u) (size l)) scope-same in
         let steps : some (badStepAt e t) (e .edges) ≡ some (badStepAt d u) (d .edges)
         = some-same _ _ (e .edges) step-same ∙ ap (λ (n : ℕ). some (badStepAt d u) n) (s .edges) in
         let many : some (badManyAt e t) (size (scopeOf e t)) ≡ some (badManyAt d u) (size (scopeOf d u))
-        = some-same _ _ (size (scopeOf e t)) many-same ∙ ap (λ (l : Loop). some (badManyAt d u) (size l)) scope-same in
-        rw (rows, steps, many) refl
+        = some-same _ _ (size (scopeOf e t)) many-same ∙ ap (λ (l : Loop). some (badManyAt d u) (size l)) scope-same in (
+          λ h.
+              let a = past-by _ _ _ h in
+              let b = past-by _ _ _ (a .1) in
+              rw (sym rows ∙ a .0, sym steps ∙ b .0, sym many ∙ past-by _ _ _ (b .1) .0) refl,
+          λ h.
+              let a = past-by _ _ _ h in
+              let b = past-by _ _ _ (a .1) in
+              rw (rows ∙ a .0, steps ∙ b .0, many ∙ past-by _ _ _ (b .1) .0) refl,
+        )

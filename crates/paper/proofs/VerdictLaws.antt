@@ -20,7 +20,7 @@ use Rattle.paper.specs.Files.{endAt, trailerOf, badLetters, badCache, ba
 use Rattle.paper.specs.Known.{Laid, Shaped}
 use Rattle.paper.specs.Verdicts.{layoutRules, shapeRules, pathRules, countRules, graphRules, headRule, orderRule, fetchRule, rowRules, stepRules, manyRules, evidenceRules, bodyRules, turnRules, turnsFrom, factRules, fileVerdict, verdict}
 use Rattle.paper.proofs.Least.{none-some}
-use Rattle.paper.proofs.RuleLaws.{past, Hands, hands-rule, hands-then, accepted-on, refused-on}
+use Rattle.paper.proofs.RuleLaws.{past, Hands, hands-by, hands-rule, hands-then, accepted-on, refused-on}
 use Rattle.paper.proofs.Meaning.{SoundGraph, SoundFact, Sound}
 use Rattle.paper.proofs.GraphLaws.{shaped, graph-sound}
 use Rattle.paper.proofs.FactLaws.{head-sound, fetched, evidence-kept}
@@ -80,8 +80,8 @@ module _ (e : Case) where
   pub hands-evidence : (i : ℕ) (t : Fact) → Hands (evidenceRules e i t)
   unfolding rowRules stepRules manyRules
   hands-evidence i t =
-      hands-then _ _ (hands-rule 16 i (some (badRowAt e t) (size (scopeOf e t))))
-      (hands-then _ _ (hands-rule 17 i (some (badStepAt e t) (e .edges))) (hands-rule 18 i (some (badManyAt e t) (size (scopeOf e t)))))
+      hands-then _ _ (hands-by _ (some (badRowAt e t) (size (scopeOf e t))))
+      (hands-then _ _ (hands-by _ (some (badStepAt e t) (e .edges))) (hands-by _ (some (badManyAt e t) (size (scopeOf e t)))))
 
 module _ (f : List ℕ) (trailer : Trailer) where
   -- The fact that stands at p passes its turn.

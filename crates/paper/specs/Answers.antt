@@ -1,4 +1,4 @@
--- "Each returns number and place and changes no lent memory." Every refusal is made by `refuse`.
+-- "Each returns number and place and changes no lent memory." Every refusal is made by `refuseAt`.
 -- "When an answer is an enum, a definition gives this paper's number and values for each of its cases. The promises use that definition."
 use Prim.Native.Nat.{ℕ}
 use mathlib.Core.List.{List, [], _∷_}
@@ -15,20 +15,26 @@ use Rattle.paper.specs.declared.BlockAnswer.the-variants as BlockAnswers
 use Rattle.paper.specs.declared.SetAnswer.{SetAnswer}
 use Rattle.paper.specs.declared.SetAnswer.the-variants as SetAnswers
 
-abbrev pub refuse : ℕ → ℕ → Refusal
-refuse number place = record { number = number; place = place }
+-- "The result gets a second place."
+abbrev pub refuseAt : ℕ → ℕ → ℕ → Refusal
+refuseAt number place second = record { number = number; place = place; second = second }
 
--- What an answer tells: the refusal's number and place, both 0 where nothing is refused, and the values, none where something is.
+-- "An accepted file's second place is 0, and so is that of every refusal not named here."
+abbrev pub refuse : ℕ → ℕ → Refusal
+refuse number place = refuseAt number place 0
+
+-- What an answer tells: the refusal's number and places, all 0 where nothing is refused, and the values, none where something is.
 pub record Told : Type 0 where
   pub number : ℕ
   pub place : ℕ
+  pub second : ℕ
   pub values : Option (List ℕ)
 
 abbrev pub tellsWhy : Refusal → Told
-tellsWhy r = record { number = r .number; place = r .place; values = none }
+tellsWhy r = record { number = r .number; place = r .place; second = r .second; values = none }
 
 abbrev pub tells : List ℕ → Told
-tells values = record { number = 0; place = 0; values = some values }
+tells values = record { number = 0; place = 0; second = 0; values = some values }
 
 -- The numbers of an accepted file are in the lent list; the verdict has none of its own.
 abbrev pub toldVerdict : Verdict → Told

@@ -1,9 +1,9 @@
--- "Facts and their evidence": a fact's head, its rows and the edge rule, as the rules 12 to 14 and 16 to 18 test them.
-use Prim.Native.Nat.{ℕ, _-_}
+-- "Facts and their evidence": a fact's head, its rows and the edge rule, as the rules 12 to 14, 16 to 18, 24 and 25 test them.
+use Prim.Native.Nat.{ℕ, _+_, _-_}
 use mathlib.Core.Bool.{Bool, true, false, cond, not, _&&_, _||_}
 use lib.Dec.{eqb, ltb, leb}
 use Rattle.paper.specs.declared.Previous.{Previous}
-use Rattle.paper.specs.Lists.{some}
+use Rattle.paper.specs.Lists.{least, some}
 use Rattle.paper.specs.Machines.{none}
 use Rattle.paper.specs.Cases.{Row, Fact, Case, inside, size, scopeOf, rowOf, sameSet, fetches}
 
@@ -64,21 +64,43 @@ module _ (e : Case) where
     unfoldable pub lacks : ℕ → Row → Row → Bool
     lacks x r s = some (λ i. not (holds s (r .slot i))) (held r) || (not (eqb x none) && (sameSet e x (t .block) && not (holds s x)))
 
-    -- 17, for an edge u to v inside the scope, where u fetches x and has row r, and v has row s:
-    -- "u fetches b: row v is not 9"; "else row u is 9: nothing is required"; "else row u is 8: row v is 8";
-    -- "else row v is 8, or a set that holds row u's blocks and also u's block where u fetches one of b's set"
+    -- For an edge u to v inside the scope, where u fetches x and has row r, and v has row s:
+    -- 24, "u fetches b: row v is not 9": "'not since b' after a fetch of b"
+    unfoldable pub afterB : ℕ → Row → Bool
+    afterB x s = eqb x (t .block) && eqb (s .number) 9
+
+    -- 25, "else row u is 8: row v is 8": "'many' followed by anything else"
+    unfoldable pub afterMany : ℕ → Row → Row → Bool
+    afterMany x r s = not (eqb x (t .block)) && (eqb (r .number) 8 && not (eqb (s .number) 8))
+
+    -- 17, "else row u is 9: nothing is required", "else row v is 8, or a set that holds row u's blocks and also u's block where u fetches one of b's set":
+    -- "a set followed by 9 or by a set that lacks a block"
+    unfoldable pub afterSet : ℕ → Row → Row → Bool
+    afterSet x r s =
+        (not (eqb x (t .block)) && (not (eqb (r .number) 9) && not (eqb (r .number) 8)))
+        && (not (eqb (s .number) 8) && (leb 8 (s .number) || lacks x r s))
+
+    -- the edge breaks one of the three
     unfoldable pub breaks : ℕ → Row → Row → Bool
-    breaks x r s =
-        cond (eqb x (t .block)) (eqb (s .number) 9)
-        (cond (eqb (r .number) 9) false
-        (cond (eqb (r .number) 8) (not (eqb (s .number) 8))
-        (cond (eqb (s .number) 8) false (leb 8 (s .number) || lacks x r s))))
+    breaks x r s = afterB x s || (afterMany x r s || afterSet x r s)
+
+    -- the number of the one it breaks: "an edge can break only one of the three"
+    unfoldable pub brokenBy : ℕ → Row → Row → ℕ
+    brokenBy x r s = cond (afterB x s) 24 (cond (afterMany x r s) 25 17)
 
     unfoldable pub badStepAt : ℕ → Bool
     badStepAt i =
         (inside (scopeOf e t) (e .from i) && inside (scopeOf e t) (e .to i))
         && breaks (e .block (e .from i)) (rowOf e t (e .from i)) (rowOf e t (e .to i))
 
+    -- 17, 24 or 25: that of edge i
+    unfoldable pub stepNumber : ℕ → ℕ
+    stepNumber i = brokenBy (e .block (e .from i)) (rowOf e t (e .from i)) (rowOf e t (e .to i))
+
     -- 18: "a node that fetches b has row 8"
     unfoldable pub badManyAt : ℕ → Bool
     badManyAt j = fetches e t j && eqb (t .row j .number) 8
+
+    -- "the least such node": of the scope's nodes at which the test holds, by its number in the graph
+    unfoldable pub leastNode : (ℕ → Bool) → ℕ
+    leastNode p = scopeOf e t .first + least p (size (scopeOf e t))

@@ -49,9 +49,9 @@ linesFrom word bound i (suc n) = lineOfTwo word i (bound i) ++ linesFrom word bo
 abbrev pub linesTo : List ℕ → (ℕ → ℕ) → ℕ → List ℕ
 linesTo word bound n = linesFrom word bound 0 n
 
--- "A refusal prints `refused`, number, place."
+-- "A refusal prints `refused`, number, place." "A printed refusal ends with the second place."
 abbrev pub refusalLine : Refusal → List ℕ
-refusalLine r = lineOfTwo (bytes "refused ") (r .number) (r .place)
+refusalLine r = bytes "refused " ++ (decimal (r .number) ++ lineOfTwo (bytes " ") (r .place) (r .second))
 
 -- the total, then the bound of each set below `sets`, then that of each fact: "Every set up to S is listed."
 unfoldable pub boundLines : ℕ → (ℕ → ℕ) → ℕ → (ℕ → ℕ) → ℕ → List ℕ
@@ -64,6 +64,6 @@ abbrev pub printed : List ℕ → Verdict → List ℕ
 printed file Accepted = accepted (readCase file)
 printed file (Refused r) = refusalLine r
 
--- "the program reads at most 65,536 bytes and prints `refused 28 0` for longer input"
+-- "the program reads at most 65,536 bytes and prints `refused 28 0` for longer input", since the second place `refused 28 0 0`
 unfoldable pub listingOf : List ℕ → List ℕ
 listingOf input = cond (ltb longestInput (length input)) (refusalLine (refuse 28 0)) (printed input (verdict input listLength))

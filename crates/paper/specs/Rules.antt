@@ -2,6 +2,7 @@
 use Prim.Native.Nat.{ℕ}
 use mathlib.Core.Path.{_≡_}
 use mathlib.Core.Bool.{Bool, cond}
+use Rattle.paper.specs.declared.Refusal.{Refusal}
 use Rattle.paper.specs.declared.Verdict.{Verdict}
 use Rattle.paper.specs.declared.Verdict.the-variants.{Accepted, Refused}
 use Rattle.paper.specs.Answers.{refuse}
@@ -10,9 +11,13 @@ use Rattle.paper.specs.Lists.{least, some}
 abbrev pub refused : ℕ → ℕ → Verdict
 refused number place = Refused (refuse number place)
 
--- A rule: its number, its place, and whether it is broken; then the rest.
+-- A rule: its refusal, and whether it is broken; then the rest.
+abbrev pub ruleBy : Refusal → Bool → Verdict → Verdict
+ruleBy r broken rest = cond broken (Refused r) rest
+
+-- A rule with one place.
 abbrev pub rule : ℕ → ℕ → Bool → Verdict → Verdict
-rule number place broken rest = cond broken (refused number place) rest
+rule number place broken rest = ruleBy (refuse number place) broken rest
 
 -- A rule whose test is p at the places below n: "The least place is given."
 abbrev pub ruleAt : ℕ → (ℕ → Bool) → ℕ → Verdict → Verdict

@@ -1,4 +1,4 @@
--- The check "tests 20 first, then 1 to 10 in order, each over the whole file; then for each fact in turn 11 to 18; then 19": the chains of which the verdict is made, each by its name.
+-- The check "tests 20 first, then 1 to 10 in order, each over the whole file; then for each fact in turn 11 to 18; then 19", with 24 and 25 "at 17's old place before 18": the chains of which the verdict is made, each by its name.
 use Prim.Native.Nat.{ℕ, zero, suc}
 use mathlib.Core.List.{List, _++_}
 use lib.Dec.{ltb}
@@ -7,11 +7,12 @@ use Rattle.paper.specs.declared.Trailer.{Trailer}
 use Rattle.paper.specs.declared.Previous.{Previous}
 use Rattle.paper.specs.declared.Verdict.{Verdict}
 use Rattle.paper.specs.declared.Verdict.the-variants.{Accepted, Refused}
-use Rattle.paper.specs.Lists.{some}
-use Rattle.paper.specs.Rules.{rule, ruleAt}
+use Rattle.paper.specs.Answers.{refuseAt}
+use Rattle.paper.specs.Lists.{least, some}
+use Rattle.paper.specs.Rules.{ruleBy, rule, ruleAt}
 use Rattle.paper.specs.Cases.{Fact, Case, size, scopeOf}
 use Rattle.paper.specs.Graphs.{badEdge, badLoop, badEntry, badReturn, badCount}
-use Rattle.paper.specs.Facts.{nonePrevious, previousOf, badHead, badOrder, unfetched, badRowAt, badStepAt, badManyAt}
+use Rattle.paper.specs.Facts.{nonePrevious, previousOf, badHead, badOrder, unfetched, badRowAt, badStepAt, stepNumber, badManyAt, leastNode}
 use Rattle.paper.specs.Bounds.{listLength, numbers}
 use Rattle.paper.specs.Records.{trailerSize}
 use Rattle.paper.specs.Files.{endAt, trailerOf, badLetters, badCache, badNumbers, badOffsets, factsAt, headEnd, factAt, factEnd, factPlace, caseOf, readCase}
@@ -50,17 +51,19 @@ module _ (e : Case) where
     unfoldable pub fetchRule : Fact → Verdict → Verdict
     fetchRule t rest = rule 14 i (unfetched e t) rest
 
-    -- 16: "a row not sound"
+    -- 16: "a row not sound"; "16 and 18 add the least such node"
     unfoldable pub rowRules : Fact → Verdict → Verdict
-    rowRules t rest = rule 16 i (some (badRowAt e t) (size (scopeOf e t))) rest
+    rowRules t rest = ruleBy (refuseAt 16 i (leastNode e t (badRowAt e t))) (some (badRowAt e t) (size (scopeOf e t))) rest
 
-    -- 17: "an edge's rule broken"
+    -- 17, 24 and 25, "an edge's rule broken"; "all three add the edge", and "within one fact the least edge decides"
     unfoldable pub stepRules : Fact → Verdict → Verdict
-    stepRules t rest = rule 17 i (some (badStepAt e t) (e .edges)) rest
+    stepRules t rest =
+        let edge = least (badStepAt e t) (e .edges) in
+        ruleBy (refuseAt (stepNumber e t edge) i edge) (some (badStepAt e t) (e .edges)) rest
 
     -- 18: "a node that fetches b has row 8"
     unfoldable pub manyRules : Fact → Verdict → Verdict
-    manyRules t rest = rule 18 i (some (badManyAt e t) (size (scopeOf e t))) rest
+    manyRules t rest = ruleBy (refuseAt 18 i (leastNode e t (badManyAt e t))) (some (badManyAt e t) (size (scopeOf e t))) rest
 
     abbrev pub evidenceRules : Fact → Verdict → Verdict
     evidenceRules t rest = rowRules t (stepRules t (manyRules t rest))

@@ -68,10 +68,11 @@ pub struct Sets {
     pub inverse: u64,
 }
 
-// "Each returns number and place."
+// "Each returns number and place." "The result gets a second place": the node or the edge at which a fact's evidence breaks, and 0 for every other refusal.
 pub struct Refusal {
     pub number: u8,
     pub place: usize,
+    pub second: usize,
 }
 
 pub enum Verdict {
@@ -131,11 +132,19 @@ pub struct Previous {
 }
 
 // Every refusal is made here.
-pub fn refuse(number: u8, place: usize) -> Refusal
-    ensures { λ r. ⌜ r ≡ Answers.refuse number place ⌝ }
+pub fn refuse_at(number: u8, place: usize, second: usize) -> Refusal
+    ensures { λ r. ⌜ r ≡ Answers.refuseAt number place second ⌝ }
 {
     Refusal {
         number: number,
         place: place,
+        second: second,
     }
+}
+
+// "An accepted file's second place is 0, and so is that of every refusal not named here."
+pub fn refuse(number: u8, place: usize) -> Refusal
+    ensures { λ r. ⌜ r ≡ Answers.refuse number place ⌝ }
+{
+    refuse_at(number, place, 0)
 }

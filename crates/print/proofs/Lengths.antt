@@ -9,6 +9,7 @@ use mathlib.Core.List.{List}
 use borrow.Author.Tests.{lt-ltb, le-ltb}
 use lib.ListN.{length, length-append}
 use Rattle.paper.specs.declared.Refusal.{Refusal}
+use Rattle.print.specs.Put.{Fits}
 use Rattle.paper.specs.Listings.{bytes, digit, decimalIn, decimal, line, lineOfTwo, refusalLine}
 
 short-in : (turns k n : ℕ) → n < 10 ^ suc k → length (decimalIn turns n) ≤ suc k
@@ -36,5 +37,10 @@ module _ (word : List ℕ) where
   unfolding lineOfTwo line
   line-of-two-length i n = simp length-append (omega arith)
 
-pub refusal-length : (r : Refusal) → r .number < 2 ^ 64 → r .place < 2 ^ 64 → length (refusalLine r) ≤ 50
-refusal-length r n p = omega (arith, line-of-two-length (bytes "refused ") (r .number) (r .place), short (r .number) n, short (r .place) p)
+pub refusal-length : (r : Refusal) → r .number < 2 ^ 64 → r .place < 2 ^ 64 → r .second < 2 ^ 64 → length (refusalLine r) ≤ 71
+refusal-length r n p q =
+    simp length-append
+    (omega (arith, line-of-two-length (bytes " ") (r .place) (r .second), short (r .number) n, short (r .place) p, short (r .second) q))
+
+pub refusal-fits : (l : List ℕ) (at : ℕ) (r : Refusal) → r .number < 2 ^ 64 → r .place < 2 ^ 64 → r .second < 2 ^ 64 → at + 71 ≤ length l → Fits l at (refusalLine r)
+refusal-fits l at r n p q h = record { room = omega (arith, refusal-length r n p q) }

@@ -51,12 +51,14 @@ pub fn line_of_two(out: &mut [u8], at: usize, before: &[u8], first: u64, second:
     line(out, after_first, b" ", second)
 }
 
-// "A refusal prints `refused`, number, place." No such line is longer than 50 bytes.
+// "A refusal prints `refused`, number, place." "A printed refusal ends with the second place." No such line is longer than 71 bytes.
 pub fn refusal(out: &mut [u8], at: usize, r: Refusal) -> usize
-    requires { ⌜ at + 50 ≤ length (now out) ⌝ }
+    requires { ⌜ at + 71 ≤ length (now out) ⌝ }
     ensures { λ to. ⌜ Put (now (out .entry)) at (refusalLine r) to (now (out .exit)) ⌝ }
 {
-    line_of_two(out, at, b"refused ", r.number as u64, r.place as u64)
+    let after_word = word(out, at, b"refused ");
+    let after_number = number(out, after_word, r.number as u64);
+    line_of_two(out, after_number, b" ", r.place as u64, r.second as u64)
 }
 
 // Writes what stands before a place to standard output.

@@ -144,7 +144,7 @@ module _ (f : List ℕ) (t : Fact) (rows : List ℕ) (kept : KeptLayout f (trail
       some-node : 1 ≤ trailerOf f .nodes
       some-node = laid f (trailerOf f) (kept .long) (kept .cache) (kept .numbers) (kept .offsets) .nodes-low
 
-      same-evidence : (rest : Verdict) → evidenceRules (readCase f) 0 with rest ≡ evidenceRules (caseOf file one) 0 read rest
+      same-evidence : Passes (evidenceRules (readCase f) 0 with) ↔ Passes (evidenceRules (caseOf file one) 0 read)
       unfolding caseOf
       same-evidence = evidence-same (readCase f) (caseOf file one) same-graph with read same g some-node there 0
 
@@ -166,7 +166,7 @@ module _ (f : List ℕ) (t : Fact) (rows : List ℕ) (kept : KeptLayout f (trail
             le-ltb (endAt file) (factEnd file one place) (omega (arith, end-is f t rows kept, end-of-fact)),
             le-ltb (factPlace file one 1) (endAt file) (omega (arith, end-is f t rows kept, end-of-fact)),
           )
-          (sym (same-evidence Accepted) ∙ a)
+          (same-evidence .0 a)
 
 -- What the file of one fact holds, but for its facts, is what f holds.
 pub one-graph : (f : List ℕ) (t : Fact) (rows : List ℕ) → Passes (wholeFileRules f) → SameGraph (readCase f) (readCase (fileWith f t rows))
@@ -189,6 +189,6 @@ one-fact f t rows passes head fetched room long =
     ∙ accepted-on (graphRules (readCase f)) (hands-graph (readCase f)) facts Accepted (sym graph) refl in (
       λ a.
           let r = accepted-one f t rows kept g head (sym by ∙ a) in
-          (r .0, same-evidence f t rows kept g head fetched (r .0) Accepted ∙ evidence-law _ _ 0 .1 (r .1)),
+          (r .0, same-evidence f t rows kept g head fetched (r .0) .1 (evidence-law _ _ 0 .1 (r .1))),
       λ a. by ∙ one-accepted f t rows kept g head fetched (a .0) (a .1),
     )

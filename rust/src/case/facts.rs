@@ -1,4 +1,4 @@
-//! Facts and their evidence: rules 11 to 18 for each fact in turn, then 19.
+//! Facts and their evidence: rules 11 to 18, with 24 and 25 beside 17, for each fact in turn, then 19.
 
 use super::layout::Layout;
 use super::{Graph, Row, RowRecord, Rules, Scope};
@@ -29,34 +29,26 @@ pub fn read_facts(layout: &Layout, ground: &Ground) -> Result<Vec<Fact>, Refusal
     let mut rest = layout.rest;
     let mut facts: Vec<Fact> = Vec::new();
     for place in 0..layout.facts {
-        let fact = read_fact(&mut rest, facts.last(), ground).map_err(|number| Refusal::new(number, place))?;
+        let fact = read_fact(&mut rest, place, facts.last(), ground)?;
         facts.push(fact);
     }
     demand(19, rest.is_empty())?;
     Ok(facts)
 }
 
-/// One fact, or the number of the first rule that it breaks.
-fn read_fact(rest: &mut &[u8], previous: Option<&Fact>, ground: &Ground) -> Result<Fact, u8> {
-    let head: [u16; 3] = take_array(rest).ok_or(11)?;
-    let mut fact = ground.read_head(head).ok_or(12)?;
-    fail_if(13, previous.is_some_and(|before| ground.out_of_order(before, &fact)))?;
-    fail_if(14, ground.graph.fetchers(fact.scope, fact.block).next().is_none())?;
+/// One fact, or the first rule that it breaks.
+fn read_fact(rest: &mut &[u8], place: usize, previous: Option<&Fact>, ground: &Ground) -> Result<Fact, Refusal> {
+    let refuse = |number| Refusal::new(number, place);
+    let head: [u16; 3] = take_array(rest).ok_or(refuse(11))?;
+    let mut fact = ground.read_head(head).ok_or(refuse(12))?;
+    let behind = previous.is_none_or(|before| !ground.out_of_order(before, &fact));
+    behind.then_some(()).ok_or(refuse(13))?;
+    ground.graph.fetchers(fact.scope, fact.block).next().ok_or(refuse(14))?;
     let size = ground.graph.scope_nodes(fact.scope).count();
-    let rows = take_rows(rest, size).ok_or(15)?;
-    fact.rows = ground.read_rows(&fact, &rows).ok_or(16)?;
-    fail_if(17, ground.graph.scope_edges(fact.scope).any(|edge| !ground.edge_rule(&fact, edge)))?;
-    let mut fetchers = ground.graph.fetchers(fact.scope, fact.block);
-    fail_if(18, fetchers.any(|node| *ground.row(&fact, node) == Row::Many))?;
-    Ok(fact)
-}
-
-fn fail_if(number: u8, broken: bool) -> Result<(), u8> {
-    if broken {
-        Err(number)
-    } else {
-        Ok(())
-    }
+    let rows = take_rows(rest, size).ok_or(refuse(15))?;
+    fact.rows = ground.read_rows(&fact, &rows).map_err(|node| refuse(16).at(node))?;
+    let broken = ground.broken(&fact).next();
+    broken.map_or(Ok(fact), |(number, second)| Err(refuse(number).at(second)))
 }
 
 fn take_rows(rest: &mut &[u8], size: usize) -> Option<Vec<RowRecord>> {
@@ -65,7 +57,7 @@ fn take_rows(rest: &mut &[u8], size: usize) -> Option<Vec<RowRecord>> {
 
 impl Ground<'_> {
     /// Rule 12: "its loop number, block or l out of range". The rows come later.
-    fn read_head(&self, [scope, block, limit]: [u16; 3]) -> Option<Fact> {
+    pub fn read_head(&self, [scope, block, limit]: [u16; 3]) -> Option<Fact> {
         let limit = usize::from(limit);
         let in_range = (1..=self.geometry.shape.ways).contains(&limit);
         let fact = Fact { scope: self.graph.scope(scope)?, block: block_or_none(block)?, limit, rows: Vec::new() };
@@ -79,9 +71,20 @@ impl Ground<'_> {
         (fact.block, first) <= (before.block, last_before)
     }
 
-    fn read_rows(&self, fact: &Fact, records: &[RowRecord]) -> Option<Vec<Row>> {
+    /// Each node of the scope, and its row where that is sound.
+    pub fn rows<'f>(
+        &'f self,
+        fact: &'f Fact,
+        records: &'f [RowRecord],
+    ) -> impl Iterator<Item = (usize, Option<Row>)> + 'f {
         let sound = |row: &Row| row.sound(fact.limit, fact.block, self.geometry.sets);
-        records.iter().map(|record| Row::read(record).filter(sound)).collect()
+        let nodes = self.graph.scope_nodes(fact.scope);
+        nodes.zip(records.iter().map(move |record| Row::read(record).filter(sound)))
+    }
+
+    /// The rows, or the least node whose row is not sound.
+    pub fn read_rows(&self, fact: &Fact, records: &[RowRecord]) -> Result<Vec<Row>, usize> {
+        self.rows(fact, records).map(|(node, row)| row.ok_or(node)).collect()
     }
 
     /// The row of a node of the fact's scope.
@@ -89,17 +92,26 @@ impl Ground<'_> {
         &fact.rows[node - self.graph.scope_nodes(fact.scope).start()]
     }
 
-    /// "For each edge u to v inside the scope".
-    fn edge_rule(&self, fact: &Fact, (u, v): (usize, usize)) -> bool {
+    /// What is wrong with rows that are sound each by itself, in the order in which it is told: each edge that misses its
+    /// rule with 17, 24 or 25 and the edge's number; then, as "no node that fetches b has row 8", 18 and the node's.
+    pub fn broken<'f>(&'f self, fact: &'f Fact) -> impl Iterator<Item = (u8, usize)> + 'f {
+        let edges = self.graph.numbered_edges(fact.scope);
+        let missed = edges.filter_map(|(edge, ends)| Some((self.edge_misses(fact, ends)?, edge)));
+        let fetchers = self.graph.fetchers(fact.scope, fact.block);
+        missed.chain(fetchers.filter(|&node| *self.row(fact, node) == Row::Many).map(|node| (18, node)))
+    }
+
+    /// "17 is kept for a set followed by 9 or by a set that lacks a block, 24 for "not since b" after a fetch of b, 25 for
+    /// "many" followed by anything else". A fetch of b comes first: what u's row says no longer counts then.
+    fn edge_misses(&self, fact: &Fact, (u, v): (usize, usize)) -> Option<u8> {
         let fetched = self.graph.blocks[u];
-        let row_v = self.row(fact, v);
-        if fetched == Some(fact.block) {
-            return *row_v != Row::NotSince;
-        }
-        match (self.row(fact, u), row_v) {
-            (Row::NotSince, _) | (_, Row::Many) => true,
-            (Row::Blocks(held), Row::Blocks(after)) => self.needed(fact, held, fetched).is_subset(after),
-            (Row::Many | Row::Blocks(_), _) => false,
+        let before = Some(self.row(fact, u)).filter(|_| fetched != Some(fact.block));
+        match (before, self.row(fact, v)) {
+            (None, Row::NotSince) => Some(24),
+            (None | Some(Row::NotSince), _) | (_, Row::Many) => None,
+            (Some(Row::Many), _) => Some(25),
+            (Some(Row::Blocks(held)), Row::Blocks(after)) if self.needed(fact, held, fetched).is_subset(after) => None,
+            (Some(Row::Blocks(_)), _) => Some(17),
         }
     }
 

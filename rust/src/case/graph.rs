@@ -133,10 +133,16 @@ impl Graph {
         }
     }
 
+    /// The edges with both ends in the scope, each with its number in the file.
+    pub fn numbered_edges(&self, scope: Scope) -> impl Iterator<Item = (usize, (usize, usize))> + '_ {
+        let nodes = self.scope_nodes(scope);
+        let all = self.edges.iter().copied().enumerate();
+        all.filter(move |(_, (u, v))| nodes.contains(u) && nodes.contains(v))
+    }
+
     /// The edges with both ends in the scope.
     pub fn scope_edges(&self, scope: Scope) -> impl Iterator<Item = (usize, usize)> + '_ {
-        let nodes = self.scope_nodes(scope);
-        self.edges.iter().copied().filter(move |(u, v)| nodes.contains(u) && nodes.contains(v))
+        self.numbered_edges(scope).map(|(_, edge)| edge)
     }
 
     /// The nodes of the scope that fetch the block.

@@ -3,6 +3,7 @@
 mod bounds;
 mod draft;
 mod facts;
+mod faults;
 mod graph;
 mod graph_rules;
 mod layout;
@@ -13,6 +14,7 @@ mod verdict;
 pub use bounds::Bounds;
 pub use draft::{Draft, FactRecord, Lists, LoopRecord};
 pub use facts::Fact;
+pub use faults::Faults;
 pub use graph::{Graph, Loop, Scope};
 pub use layout::{claimed_numbers, LARGEST, TRAILER};
 pub use rows::{Row, RowRecord};

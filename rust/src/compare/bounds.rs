@@ -3,7 +3,7 @@
 use super::Settings;
 use crate::case::{Draft, FactRecord, Lists, LoopRecord, Paper, Row, LARGEST};
 use crate::generate::cases::{sound, Plan};
-use crate::generate::damage::{damage, scatter};
+use crate::generate::damage::{damage, scatter, RULES};
 use crate::listing::{listing, LONGEST_INPUT};
 use crate::machine::Shape;
 // A child process that is handed its input and read to its end: what talks to `pipe` starts `bounds` as well.
@@ -35,8 +35,7 @@ pub fn run(bounds: &Program, settings: &Settings) -> Result<(), String> {
         let file = match i % 10 {
             0..=4 => sound_file(&mut random, &mut seen),
             5 => scattered_file(&mut random),
-            // Every rule that a file can break: 20 is about the lent list.
-            _ => damaged_file(&mut random, 1 + (i / 10 * 4 + i % 10 - 6) as u8 % 19),
+            _ => damaged_file(&mut random, i / 10 * 4 + i % 10 - 6),
         };
         compare(bounds, &file, &mut seen)?;
     }
@@ -82,8 +81,9 @@ fn scattered_file(random: &mut Random) -> Vec<u8> {
     file
 }
 
-/// One fault, so that each rule comes up as often as the others.
-fn damaged_file(random: &mut Random, rule: u8) -> Vec<u8> {
+/// One fault, so that each rule comes up as often as the others; but for 20, the last, which is about the lent list.
+fn damaged_file(random: &mut Random, turn: usize) -> Vec<u8> {
+    let rule = RULES[turn % (RULES.len() - 1)];
     let plan = Plan::roomy(random);
     let draft = sound(random, &plan, &Paper);
     damage(random, &draft, &[rule]).0
@@ -127,7 +127,7 @@ impl Seen {
     }
 
     fn demand(&self) -> Result<(), String> {
-        let kinds = (1..=19).chain([28]).map(|number| format!("refused {number}"));
+        let kinds = RULES.into_iter().filter(|&rule| rule != 20).chain([28]).map(|number| format!("refused {number}"));
         for kind in kinds.chain(["total".to_string()]) {
             if self.texts.get(&kind).is_none_or(|&count| count < AT_LEAST) {
                 return Err(format!("`{kind}` was printed too seldom"));

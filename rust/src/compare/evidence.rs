@@ -2,7 +2,7 @@
 
 use super::gathering::{gather, Gathered};
 use super::{agree, Settings};
-use crate::case::{Draft, FactRecord, Graph, Row, Scope, NUMBERS};
+use crate::case::{Draft, FactRecord, Graph, Lists, Row, Scope, NUMBERS};
 use crate::generate::cases::{sound, Plan};
 use crate::machine::Geometry;
 use crate::pipe::{Pipe, Request};
@@ -22,22 +22,44 @@ type Named = (Scope, u16, usize);
 enum Trial {
     /// Exact rows where few enough gather: accepted.
     Exact,
-    /// Exact rows where too many gather at a node that fetches b: 18.
+    /// Exact rows where too many gather at a node that fetches b: 18 at the least such node.
     TooMany,
-    /// Accepted rows with one made smaller: 17.
+    /// Accepted rows with one made smaller: an edge to its node misses its rule, by 24 if a fetch of b comes before.
     Shrunk,
     /// Any rows at all where too many gather: refused.
     Hopeless,
 }
 
-impl Trial {
-    fn met_by(self, refusal: Option<Refusal>) -> bool {
-        match self {
-            Trial::Exact => refusal.is_none(),
-            Trial::TooMany => refusal == Some(Refusal::new(18, 0)),
-            Trial::Shrunk => refusal == Some(Refusal::new(17, 0)),
-            Trial::Hopeless => refusal.is_some_and(|refusal| (16..=18).contains(&refusal.number)),
+/// Rows for a fact, by themselves or in a file, why they are tried, and the node where they must fail.
+struct Tried<Rows> {
+    trial: Trial,
+    node: usize,
+    rows: Rows,
+}
+
+impl<Rows> Tried<Rows> {
+    fn with<Others>(self, other: impl FnOnce(Rows) -> Others) -> Tried<Others> {
+        Tried { trial: self.trial, node: self.node, rows: other(self.rows) }
+    }
+}
+
+impl Tried<Draft> {
+    fn met_by(&self, refusal: Option<Refusal>) -> bool {
+        match (self.trial, refusal) {
+            (Trial::Exact, _) => refusal.is_none(),
+            (_, None) => false,
+            (Trial::TooMany, Some(refusal)) => refusal == Refusal::new(18, 0).at(self.node),
+            (Trial::Shrunk, Some(refusal)) => self.shrunk_at(refusal),
+            (Trial::Hopeless, Some(refusal)) => matches!(refusal.number, 16..=18 | 24 | 25),
         }
+    }
+
+    fn shrunk_at(&self, Refusal { number, place, second }: Refusal) -> bool {
+        let Lists { nodes, edges, .. } = &self.rows.lists;
+        let (from, to) = edges[second as usize];
+        let fetched = nodes[usize::from(from)] == self.rows.facts[0].block;
+        let numbers = if fetched { &[24][..] } else { &[17, 25] };
+        numbers.contains(&number) && place == 0 && usize::from(to) == self.node
     }
 }
 
@@ -47,7 +69,7 @@ pub fn run(pipe: &Pipe, settings: &Settings) -> Result<(), String> {
     let mut left = settings.graphs;
     while left > 0 {
         let graphs = left.min(TOGETHER);
-        let trials: Vec<(Trial, Draft)> = (0..graphs).flat_map(|_| trials(&mut random)).collect();
+        let trials: Vec<Tried<Draft>> = (0..graphs).flat_map(|_| trials(&mut random)).collect();
         try_all(pipe, &trials, &mut counts)?;
         left -= graphs;
     }
@@ -59,21 +81,22 @@ pub fn run(pipe: &Pipe, settings: &Settings) -> Result<(), String> {
     }
 }
 
-fn try_all(pipe: &Pipe, trials: &[(Trial, Draft)], counts: &mut BTreeMap<Trial, u64>) -> Result<(), String> {
-    let requests: Vec<Request> =
-        trials.iter().map(|(_, draft)| Request::Check { file: draft.write(), numbers: vec![1; NUMBERS] }).collect();
+fn try_all(pipe: &Pipe, trials: &[Tried<Draft>], counts: &mut BTreeMap<Trial, u64>) -> Result<(), String> {
+    let check = |tried: &Tried<Draft>| Request::Check { file: tried.rows.write(), numbers: vec![1; NUMBERS] };
+    let requests: Vec<Request> = trials.iter().map(check).collect();
     let answers = agree(pipe, &requests)?;
-    for ((trial, draft), answer) in trials.iter().zip(answers) {
-        if !trial.met_by(answer.refusal) {
-            return Err(format!("{trial:?} gave {:?}\n{}", answer.refusal, show::file(&draft.write())));
+    for (tried, answer) in trials.iter().zip(answers) {
+        if !tried.met_by(answer.refusal) {
+            let file = show::file(&tried.rows.write());
+            return Err(format!("{:?} at node {} gave {:?}\n{file}", tried.trial, tried.node, answer.refusal));
         }
-        *counts.entry(*trial).or_default() += 1;
+        *counts.entry(tried.trial).or_default() += 1;
     }
     Ok(())
 }
 
 /// A graph, each time with one fact for each block, scope and limit, and its rows in all the ways that are tried.
-fn trials(random: &mut Random) -> Vec<(Trial, Draft)> {
+fn trials(random: &mut Random) -> Vec<Tried<Draft>> {
     let plan = Plan { nodes: random.within(1..=9), rows: 0, ..Plan::small(random) };
     let draft = sound(random, &plan, &crate::case::Paper);
     let geometry = Geometry::read(draft.policy, draft.ways, draft.sets).expect("the plan's machine is in range");
@@ -88,7 +111,7 @@ fn trials(random: &mut Random) -> Vec<(Trial, Draft)> {
         for limit in 1..=geometry.shape.ways {
             let fact = (scope, block, limit);
             let rows = rows_to_try(random, &graph, fact, &gathered).into_iter();
-            trials.extend(rows.map(|(trial, rows)| (trial, with_fact(&draft, fact, &rows))));
+            trials.extend(rows.map(|tried| tried.with(|rows| with_fact(&draft, fact, &rows))));
         }
     }
     trials
@@ -100,24 +123,24 @@ fn with_fact(draft: &Draft, (scope, block, limit): Named, rows: &[Row]) -> Draft
 }
 
 /// The rows to try for one fact.
-fn rows_to_try(random: &mut Random, graph: &Graph, fact: Named, gathered: &Gathered) -> Vec<(Trial, Vec<Row>)> {
+fn rows_to_try(random: &mut Random, graph: &Graph, fact: Named, gathered: &Gathered) -> Vec<Tried<Vec<Row>>> {
     let (scope, block, limit) = fact;
     let first = *graph.scope_nodes(scope).start();
     let exact = gathered.rows(limit);
-    if gathered.small_enough(limit, graph.fetchers(scope, block).map(|node| node - first)) {
+    let Some(node) = graph.fetchers(scope, block).find(|node| !gathered.small_enough(limit, node - first)) else {
         let smaller = (0..exact.len()).flat_map(|place| smaller_rows(gathered, limit, place));
         let shrunk = smaller.map(|(place, row)| {
             let mut rows = exact.clone();
             rows[place] = row;
-            (Trial::Shrunk, rows)
+            Tried { trial: Trial::Shrunk, node: first + place, rows }
         });
-        return shrunk.chain([(Trial::Exact, exact.clone())]).collect();
-    }
+        return shrunk.chain([Tried { trial: Trial::Exact, node: first, rows: exact.clone() }]).collect();
+    };
     let hopeless = (0..3).map(|_| {
-        let any = exact.iter().map(|row| any_row(random, row, limit)).collect();
-        (Trial::Hopeless, any)
+        let rows = exact.iter().map(|row| any_row(random, row, limit)).collect();
+        Tried { trial: Trial::Hopeless, node, rows }
     });
-    hopeless.chain([(Trial::TooMany, exact.clone())]).collect()
+    hopeless.chain([Tried { trial: Trial::TooMany, node, rows: exact.clone() }]).collect()
 }
 
 /// Every way to make a row say less than what gathers there: one block fewer, too few blocks for "many", or 9.

@@ -4,7 +4,7 @@ use super::kinds::Kinds;
 use super::{borders, Comparison, Settings};
 use crate::case::{Paper, NUMBERS};
 use crate::generate::cases::{sound, Plan};
-use crate::generate::damage::{damage, scatter};
+use crate::generate::damage::{damage, scatter, RULES};
 use crate::pipe::{Pipe, Request};
 use crate::random::Random;
 
@@ -22,7 +22,7 @@ pub fn run(pipe: &Pipe, settings: &Settings) -> Result<(), String> {
         let request = match i % 20 {
             0..=8 => sound_file(&mut random, &mut kinds),
             9 | 10 => scattered_file(&mut random),
-            _ => damaged_file(&mut random, 1 + (i / 20 % 20) as u8),
+            _ => damaged_file(&mut random, i / 20),
         };
         comparison.add(request)?;
     }
@@ -30,7 +30,10 @@ pub fn run(pipe: &Pipe, settings: &Settings) -> Result<(), String> {
     kinds.report();
     let tally = &comparison.tally;
     println!("case files, {} and some at the limits, by refusal:\n{}", settings.files, tally.table(5));
-    tally.demand(5, 0..=20, AT_LEAST)
+    println!("second places: apart from the number in the scope, one of several, of several rules, before an 18:");
+    println!("{}", tally.seconds.table());
+    tally.demand(5, RULES.into_iter().chain([0]), AT_LEAST)?;
+    tally.seconds.demand(AT_LEAST / 5)
 }
 
 /// A lent list with noise in it.
@@ -55,14 +58,14 @@ fn scattered_file(random: &mut Random) -> Request {
 }
 
 /// A fault, or two so that their order shows, in a file that has room for them at first, middle and last places.
-fn damaged_file(random: &mut Random, rule: u8) -> Request {
+fn damaged_file(random: &mut Random, turn: usize) -> Request {
     let plan = Plan::roomy(random);
     let draft = (0..20)
         .map(|_| sound(random, &plan, &Paper))
         .find(|draft| draft.facts.len() > 3 && draft.lists.loops.len() > 2);
     let draft = draft.unwrap_or_else(|| sound(random, &plan, &Paper));
-    let near = rule % 20 + 1;
-    let far = random.within(1..=20) as u8;
+    let [rule, near] = [turn, turn + 1].map(|turn| RULES[turn % RULES.len()]);
+    let far = random.pick(&RULES);
     let other = random.pick(&[rule, rule, near, far]);
     let rules = if other == rule { vec![rule] } else { vec![rule, other] };
     let (file, numbers) = damage(random, &draft, &rules);

@@ -49,8 +49,8 @@ impl Gathered {
         self.at.iter().map(row).collect()
     }
 
-    /// Whether at each of these nodes fewer than l blocks can have gathered.
-    pub fn small_enough(&self, limit: usize, mut fetchers: impl Iterator<Item = usize>) -> bool {
-        fetchers.all(|place| self.at[place].as_ref().is_none_or(|blocks| blocks.len() < limit))
+    /// Whether at this place of the scope fewer than l blocks can have gathered.
+    pub fn small_enough(&self, limit: usize, place: usize) -> bool {
+        self.at[place].as_ref().is_none_or(|blocks| blocks.len() < limit)
     }
 }

@@ -47,7 +47,7 @@ fn examine(wrong: &Wrong, found: &Break) -> Result<String, String> {
     let walker = walk(&case, found)?;
     let Measure { of, misses, bound } = *walker.misses.exceeding(&case.bounds).last().ok_or("nothing is exceeded")?;
     let verdict = match judge(&file, &Paper) {
-        Err(refusal) => format!("refused {} {}", refusal.number, refusal.place),
+        Err(refusal) => show::verdict(Some(refusal)),
         Ok(right) if walker.misses.exceeding(&right.bounds).is_empty() => of.among(&right.bounds).to_string(),
         Ok(_) => return Err("the paper's own bounds are exceeded".to_string()),
     };

@@ -1,5 +1,5 @@
-//! "An answer is the operation's byte, the refusal's number u8 (0: not refused), the refusal's place u64 (0 where not
-//! refused), and then" what the operation hands back.
+//! "An answer is the operation's byte, the refusal's number u8 (0: not refused), its place u64 and its second place u64
+//! (both 0 where not refused), and then" what the operation hands back.
 
 use super::Request;
 use crate::bytes::{take, take_array, take_list};
@@ -45,8 +45,9 @@ impl Answer {
         if take::<u8>(&mut rest)? != request.operation() {
             return None;
         }
-        let (number, place) = (take(&mut rest)?, take(&mut rest)?);
-        let refusal = (number != 0 || place != 0).then_some(Refusal { number, place });
+        let said = Refusal { number: take(&mut rest)?, place: take(&mut rest)?, second: take(&mut rest)? };
+        let nothing = Refusal { number: 0, place: 0, second: 0 };
+        let refusal = (said != nothing).then_some(said);
         let body = Body::take(&mut rest, request)?;
         *bytes = rest;
         Some(Answer { refusal, body })

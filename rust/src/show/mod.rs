@@ -65,9 +65,9 @@ fn arguments(request: &Request) -> String {
     }
 }
 
-fn verdict(refusal: Option<Refusal>) -> String {
+pub fn verdict(refusal: Option<Refusal>) -> String {
     match refusal {
-        Some(Refusal { number, place }) => format!("refused {number} {place}"),
+        Some(Refusal { number, place, second }) => format!("refused {number} {place} {second}"),
         None => "not refused".to_string(),
     }
 }

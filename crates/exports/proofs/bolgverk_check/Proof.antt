@@ -9,13 +9,13 @@ returns : tie.Need-returns
 returns c =
     let e = c .before .before .before .before .check .ensures in
     let told = c .enum-told .given .1 in
-    check-call _ _ _ _ _ _ e (rw told refl) (rw told refl)
+    check-call _ _ _ _ _ _ _ e (rw told refl) (rw told refl) (rw told refl)
 
 returns-2 : tie.Need-returns-2
 returns-2 c =
     let e = c .before .before .before .before .before .check .ensures in
     let told = c .before .broken .given .1 in
-    check-call _ _ _ _ _ _ e (rw told refl) (rw told refl)
+    check-call _ _ _ _ _ _ _ e (rw told refl) (rw told refl) (rw told refl)
 
 pub bolgverk-check-spec : {M : Type 1} → statement M
 bolgverk-check-spec =

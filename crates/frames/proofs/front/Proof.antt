@@ -9,13 +9,15 @@ returns : tie.Need-returns
 unfolding head front
 returns c =
     let value = c .before .before in
-    let place = value .before .before .before .before in
+    let second = value .before .before .before .before in
+    let place = second .before .before .before .before in
     let number = place .before .before .before .before in
     let refusal = number .before .before .before in
     let operation = refusal .before .before .before in (
       put-then
-          (put-then (operation .put .ensures .0) (put-then (number .put2 .ensures .0) (place .put3 .ensures .0)))
-          (value .put4 .ensures .0),
+          (put-then (operation .put .ensures .0)
+          (put-then (number .put2 .ensures .0) (put-then (place .put3 .ensures .0) (second .put4 .ensures .0))))
+          (value .put5 .ensures .0),
       search needs,
     )
 
@@ -23,5 +25,5 @@ pub front-spec : {M : Type 1} → statement M
 front-spec =
     tie.close
     (tie.spec
-    (λ c κs. search needs) (λ c. search needs) (λ c κs. search needs) (λ c κs. search needs) (λ c κs. search needs) (λ c. search needs)
+    (λ c κs. search needs) (λ c. search needs) (λ c κs. search needs) (λ c κs. search needs) (λ c κs. search needs) (λ c κs. search needs) (λ c. search needs)
     returns)

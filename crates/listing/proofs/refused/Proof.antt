@@ -1,7 +1,7 @@
 -- `listing::refused`: there is room for a refusal's line.
 use native.Mathlib.Omega.{arith}
 use borrow.Author.Needs.{needs}
-use Rattle.print.proofs.Lengths.{refusal-length}
+use Rattle.print.proofs.Lengths.{refusal-fits}
 use Rattle.listing.proofs.ListingTexts.{printed-whole}
 use Rattle.listing.proofs.refused.Statement.{statement}
 use Rattle.listing.proofs.refused.Tie as tie
@@ -9,7 +9,7 @@ use Rattle.listing.proofs.refused.Tie as tie
 returns : tie.Need-returns
 returns c =
     let s = c .before .before in
-    printed-whole (record { room = omega (arith, refusal-length (s .args .why) (search needs) (search needs), c .before .refusal-arg .given .0 .1) })
+    printed-whole (refusal-fits _ _ (s .args .why) (search needs) (search needs) (search needs) (omega (arith, c .before .refusal-arg .given .0 .1)))
     (c .refusal .ensures)
 
 pub refused-spec : {M : Type 1} → statement M

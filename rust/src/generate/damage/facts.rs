@@ -1,7 +1,7 @@
-//! Faults of facts and rows: rules 11 to 18.
+//! Faults of facts and rows: rules 11 to 18, 24 and 25.
 
 use super::Spot;
-use crate::case::{Draft, FactRecord, Graph, Row, Scope, TRAILER, WHOLE_GRAPH};
+use crate::case::{Draft, FactRecord, Graph, Row, RowRecord, Scope, TRAILER, WHOLE_GRAPH};
 use crate::machine::NONE;
 use crate::random::Random;
 use std::collections::BTreeSet;
@@ -27,9 +27,9 @@ pub fn damage(random: &mut Random, draft: &mut Draft, rule: u8, spot: Spot) {
         12 => spoil_head(random, draft, i),
         13 => disorder(random, draft, i),
         14 => add_unfetched(random, draft, i),
-        16 => spoil_row(random, draft, i),
-        17 => break_edge_rule(random, draft, i),
-        _ => forget_at_fetcher(random, draft, i),
+        16 => (0..random.pick(&[1, 1, 3])).for_each(|_| spoil_row(random, draft, i)),
+        17 | 24 | 25 => break_edge_rule(random, draft, i, rule),
+        _ => (0..random.pick(&[1, 1, 3])).for_each(|_| forget_at_fetcher(random, draft, i)),
     }
 }
 
@@ -109,28 +109,51 @@ fn scope_of(draft: &Draft, i: usize) -> (Graph, Scope) {
     (graph, scope)
 }
 
-/// Rule 17: makes the row at the end of some edge smaller than it must be.
-fn break_edge_rule(random: &mut Random, draft: &mut Draft, i: usize) {
+/// Rules 17, 24 and 25: rows on which some edge misses just this rule, and often other edges miss others.
+fn break_edge_rule(random: &mut Random, draft: &mut Draft, i: usize, rule: u8) {
     let (graph, scope) = scope_of(draft, i);
-    let edges: Vec<(usize, usize)> = graph.scope_edges(scope).collect();
-    if edges.is_empty() {
-        return;
-    }
-    let first = *graph.scope_nodes(scope).start();
-    let (u, v) = random.pick(&edges);
     let fact = &mut draft.facts[i];
-    let row = &mut fact.rows[v - first];
-    let smaller = match Row::read(row) {
-        Some(Row::Blocks(blocks)) if !blocks.is_empty() && random.chance(70) => {
-            let lost = random.pick(&Vec::from_iter(blocks.iter().copied()));
-            Row::Blocks(blocks.into_iter().filter(|&block| block != lost).collect())
+    let first = *graph.scope_nodes(scope).start();
+    let fetches = |node: usize| graph.blocks[node] == Some(fact.block);
+    let edges = graph.scope_edges(scope).filter(|&(u, v)| fetches(u) == (rule == 24) && (u != v || rule == 24));
+    let edges: Vec<(usize, usize)> = edges.collect();
+    if let Some(&(u, v)) = edges.get(random.below(edges.len())) {
+        let (before, after) = (&fact.rows[u - first], &fact.rows[v - first]);
+        let (before, after) = rows_that_miss(random, rule, Row::read(before), Row::read(after));
+        fact.rows[v - first] = after.record();
+        if let Some(before) = before {
+            fact.rows[u - first] = before.record();
         }
-        Some(Row::Many) if random.chance(50) => Row::Blocks(BTreeSet::new()),
-        _ => Row::NotSince,
-    };
-    *row = smaller.record();
-    if random.chance(20) && graph.blocks[u] != Some(fact.block) {
-        fact.rows[u - first] = Row::Many.record();
+    }
+    if random.chance(50) {
+        tangle(random, &mut fact.rows);
+    }
+    if random.chance(20) {
+        forget_at_fetcher(random, draft, i);
+    }
+}
+
+/// Rows for the two ends of an edge that misses the rule, the first where it must be another than it is.
+fn rows_that_miss(random: &mut Random, rule: u8, before: Option<Row>, after: Option<Row>) -> (Option<Row>, Row) {
+    let empty = Row::Blocks(BTreeSet::new());
+    match (rule, before, after) {
+        (24, _, _) => (None, Row::NotSince),
+        (25, _, Some(Row::Blocks(blocks))) if random.chance(50) => (Some(Row::Many), Row::Blocks(blocks)),
+        (25, _, _) => (Some(Row::Many), random.pick(&[Row::NotSince, empty])),
+        (_, Some(Row::Blocks(held)), Some(Row::Blocks(blocks))) if !held.is_empty() && random.chance(70) => {
+            let lost = random.pick(&Vec::from_iter(held));
+            (None, Row::Blocks(blocks.into_iter().filter(|&block| block != lost).collect()))
+        }
+        (_, Some(Row::Blocks(_)), _) => (None, random.pick(&[Row::NotSince, empty])),
+        _ => (Some(empty), Row::NotSince),
+    }
+}
+
+/// Some rows become others that are sound: many edges then miss their rules, of all kinds and in no order.
+fn tangle(random: &mut Random, rows: &mut [RowRecord]) {
+    for _ in 0..random.within(1..=4) {
+        let other = random.pick(&[Row::NotSince, Row::NotSince, Row::Many, Row::Blocks(BTreeSet::new())]);
+        rows[random.below(rows.len())] = other.record();
     }
 }
 

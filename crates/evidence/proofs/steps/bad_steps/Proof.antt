@@ -2,7 +2,7 @@
 use Prim.Native.Nat.{_-_}
 use native.Mathlib.Omega.{arith}
 use borrow.Author.Needs.{needs}
-use Rattle.paper.proofs.Least.{some-found, some-end}
+use Rattle.paper.proofs.Least.{least-found, least-end}
 use Rattle.evidence.proofs.Scopes.{made-ready}
 use Rattle.evidence.proofs.OneStep.{Reached, reached-start, reached-more, reached-after}
 use Rattle.evidence.proofs.steps.bad_steps.Statement.{statement}
@@ -56,7 +56,7 @@ bad-step-requires c κs =
 returns-2 : tie.Need-returns-2 Inv-loop μ-loop
 returns-2 c =
     let a = c .before .before .before .before .before in
-    some-found _ _ _ (a .before .before .loop .inv .passed) _ (a .if1 .taken) (c .before .bad-step .ensures) (c .if3 .taken)
+    least-found _ _ _ _ (a .before .before .loop .inv .passed) (a .if1 .taken) (c .before .bad-step .ensures) (c .if3 .taken)
 
 loop-again : tie.Need-loop-again Inv-loop μ-loop
 loop-again c =
@@ -65,7 +65,7 @@ loop-again c =
     reached-more _ _ _ (s .before .before .pre .1 .1 .0) _ (a .before .before .loop .inv) (a .if1 .taken) _ (c .before .bad-step .ensures) (c .if3 .left)
 
 returns-3 : tie.Need-returns-3 Inv-loop μ-loop
-returns-3 c = some-end _ _ _ (c .before .before .loop .inv .passed) (c .if1 .left)
+returns-3 c = least-end _ _ _ (c .before .before .loop .inv .passed) (c .if1 .left)
 
 pub bad-steps-spec : {M : Type 1} → statement M
 bad-steps-spec =

@@ -1,7 +1,10 @@
 //! How often each refusal was seen, and where.
 
+mod seconds;
+
 use crate::case::claimed_numbers;
 use crate::pipe::{Answer, Body, Request};
+use seconds::Seconds;
 use std::collections::BTreeMap;
 
 #[derive(Clone, Copy, Default)]
@@ -16,6 +19,7 @@ pub struct Places {
 pub struct Tally {
     /// By operation and refusal number; number 0 stands for requests that were not refused.
     seen: BTreeMap<(u8, u8), Places>,
+    pub seconds: Seconds,
     pub accesses: u64,
     pub misses: u64,
 }
@@ -35,7 +39,7 @@ fn extent(request: &Request, number: u8) -> Option<(u64, u64)> {
         10 => Some((1, nodes)),
         // The first fact has no previous one.
         13 => Some((1, facts)),
-        11..=18 => Some((0, facts)),
+        11..=18 | 24 | 25 => Some((0, facts)),
         _ => None,
     }
 }
@@ -51,6 +55,9 @@ impl Tally {
                 _ if place + 1 == end => places.last += 1,
                 _ => places.middle += 1,
             }
+        }
+        if let (Request::Check { file, .. }, Some(refusal)) = (request, answer.refusal) {
+            self.seconds.add(file, refusal);
         }
         if let (Request::Trace { blocks, .. }, None, Body::Trace { misses, .. }) =
             (request, answer.refusal, &answer.body)
@@ -83,7 +90,7 @@ impl Tally {
     pub fn demand(&self, operation: u8, numbers: impl IntoIterator<Item = u8>, at_least: u64) -> Result<(), String> {
         for number in numbers {
             let places = self.get(operation, number);
-            let placed = operation == 5 && (6..=18).contains(&number) || operation == 4 && number == 21;
+            let placed = operation == 5 && matches!(number, 6..=18 | 24 | 25) || operation == 4 && number == 21;
             let fewest = places.first.min(places.middle).min(places.last);
             if places.count < at_least || placed && fewest * 10 < at_least {
                 return Err(format!(
