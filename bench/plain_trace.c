@@ -54,7 +54,9 @@ static inline uint8_t nmru(struct set_state *set, unsigned ways, uint16_t block)
     unsigned j = line_of(set->lines, ways, block);
     uint8_t miss = j == ways;
     if (miss) {
-        j = (unsigned)__builtin_ctz(~(unsigned)set->bits);
+        j = line_of(set->lines, ways, NONE);
+        if (j == ways)
+            j = (unsigned)__builtin_ctz(~(unsigned)set->bits);
         set->lines[j] = block;
     }
     set->bits = marked(set->bits, ways, j);

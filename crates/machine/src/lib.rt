@@ -33,7 +33,7 @@ fn take_step(policy: u8, k: usize, state: SetState, block: Block) -> Stepped
         return state.fifo(k, block, paper::kept_from(k));
     }
     let next = next::next_bits();
-    let line = state.line(k, block, 0);
+    let line = state.line(k, block);
     state.nmru(k, block, line, &next)
 }
 
