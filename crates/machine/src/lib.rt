@@ -2,8 +2,10 @@
 ghost use mathlib.Core.Path.{_≡_};
 ghost use mathlib.Core.Bool.{true};
 ghost use mathlib.Core.Logic.{_≢_};
+ghost use Prim.Native.Nat.{_+_, _^_, _<_};
 ghost use Rattle.paper.specs.Machines as Machines;
 ghost use Rattle.paper.specs.Operations as Operations;
+ghost use Rattle.paper.specs.Ready.{Ready};
 
 mod legality;
 
@@ -18,7 +20,19 @@ use paper::SetState;
 use paper::StepAnswer;
 use paper::Stepped;
 
-// One step of the policy's machine.
+// One step of NMRU.
+fn nmru_step(k: usize, state: SetState, block: Block) -> Stepped
+    requires { ⌜ Ready k (state .lines) ⌝ }
+    requires { ⌜ block .0 ≢ Machines.none ⌝ }
+    requires { ⌜ state .bits + 1 < 2 ^ k ⌝ }
+    ensures { λ r. ⌜ r ≡ Machines.nmruStep k state (block .0) ⌝ }
+{
+    let next = next::next_bits();
+    let line = state.line(k, block);
+    state.nmru(k, block, line, &next)
+}
+
+// One step of the policy's machine. NMRU's is named twice so that the compiler makes the table of 2,048 entries for eight ways alone, which alone look at it.
 fn take_step(policy: u8, k: usize, state: SetState, block: Block) -> Stepped
     requires { ⌜ Machines.offered policy k ≡ true ⌝ }
     requires { ⌜ Machines.legal policy k state ≡ true ⌝ }
@@ -32,9 +46,10 @@ fn take_step(policy: u8, k: usize, state: SetState, block: Block) -> Stepped
     if policy == paper::FIFO {
         return state.fifo(k, block, paper::kept_from(k));
     }
-    let next = next::next_bits();
-    let line = state.line(k, block);
-    state.nmru(k, block, line, &next)
+    if k == 8 {
+        return nmru_step(k, state, block);
+    }
+    nmru_step(k, state, block)
 }
 
 // "a refused step hands back the state it was given"

@@ -41,24 +41,29 @@ returns-2 : tie.Need-returns-2
 unfolding step
 returns-2 c = c .fifo .ensures ∙ sym (rw (step, ne-eqb _ _ (c .before .before .before .if1 .left), eq-eqb _ _ (c .before .before .if2 .taken)))
 
-line-requires : tie.Need-line-requires
-line-requires c κs =
+nmru-step-requires : tie.Need-nmru-step-requires
+nmru-step-requires c κs =
     let s = c .before .before .before in
     let o = says-true (says-offered _ _) (s .pre .0) in
     (legal-ready _ _ _ (s .pre .1 .0) o, (s .pre .1 .1, nmru-bits _ _ _ (s .pre .1 .0) (omega (arith, o .known))))
 
-nmru-requires : tie.Need-nmru-requires
-nmru-requires c κs =
-    let d = c .before in
-    let s = d .before .before .before .before in
-    let o = says-true (says-offered _ _) (s .pre .0) in
-    (legal-ready _ _ _ (s .pre .1 .0) o, (nmru-bits _ _ _ (s .pre .1 .0) (omega (arith, o .known)), (d .line .ensures, d .before .next-bits .ensures)))
-
 returns-3 : tie.Need-returns-3
 unfolding step
 returns-3 c =
-    let d = c .before .before .before .before in
-    c .nmru .ensures ∙ sym (rw (step, ne-eqb _ _ (d .before .if1 .left), ne-eqb _ _ (d .if2 .left)))
+    let d = c .before .before in
+    c .nmru-step .ensures ∙ sym (rw (step, ne-eqb _ _ (d .before .if1 .left), ne-eqb _ _ (d .if2 .left)))
+
+nmru-step-requires-2 : tie.Need-nmru-step-requires-2
+nmru-step-requires-2 c κs =
+    let s = c .before .before .before in
+    let o = says-true (says-offered _ _) (s .pre .0) in
+    (legal-ready _ _ _ (s .pre .1 .0) o, (s .pre .1 .1, nmru-bits _ _ _ (s .pre .1 .0) (omega (arith, o .known))))
+
+returns-4 : tie.Need-returns-4
+unfolding step
+returns-4 c =
+    let d = c .before .before in
+    c .nmru-step2 .ensures ∙ sym (rw (step, ne-eqb _ _ (d .before .if1 .left), ne-eqb _ _ (d .if2 .left)))
 
 pub take-step-spec : {M : Type 1} → statement M
 take-step-spec =
@@ -71,7 +76,7 @@ take-step-spec =
     kept-from-requires
     fifo-requires
     returns-2
-    (λ c κs. search needs)
-    line-requires
-    nmru-requires
-    returns-3)
+    nmru-step-requires
+    returns-3
+    nmru-step-requires-2
+    returns-4)
