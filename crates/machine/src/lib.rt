@@ -2,10 +2,8 @@
 ghost use mathlib.Core.Path.{_≡_};
 ghost use mathlib.Core.Bool.{true};
 ghost use mathlib.Core.Logic.{_≢_};
-ghost use Prim.Native.Nat.{_+_, _^_, _<_};
 ghost use Rattle.paper.specs.Machines as Machines;
 ghost use Rattle.paper.specs.Operations as Operations;
-ghost use Rattle.paper.specs.Ready.{Ready};
 
 mod legality;
 
@@ -20,19 +18,7 @@ use paper::SetState;
 use paper::StepAnswer;
 use paper::Stepped;
 
-// One step of NMRU.
-fn nmru_step(k: usize, state: SetState, block: Block) -> Stepped
-    requires { ⌜ Ready k (state .lines) ⌝ }
-    requires { ⌜ block .0 ≢ Machines.none ⌝ }
-    requires { ⌜ state .bits + 1 < 2 ^ k ⌝ }
-    ensures { λ r. ⌜ r ≡ Machines.nmruStep k state (block .0) ⌝ }
-{
-    let next = next::next_bits();
-    let line = state.line(k, block);
-    state.nmru(k, block, line, &next)
-}
-
-// One step of the policy's machine. NMRU's is named twice so that the compiler makes the table of 2,048 entries for eight ways alone, which alone look at it.
+// One step of the policy's machine.
 fn take_step(policy: u8, k: usize, state: SetState, block: Block) -> Stepped
     requires { ⌜ Machines.offered policy k ≡ true ⌝ }
     requires { ⌜ Machines.legal policy k state ≡ true ⌝ }
@@ -46,10 +32,13 @@ fn take_step(policy: u8, k: usize, state: SetState, block: Block) -> Stepped
     if policy == paper::FIFO {
         return state.fifo(k, block, paper::kept_from(k));
     }
+    let line = state.line(k, block);
     if k == 8 {
-        return nmru_step(k, state, block);
+        return next::step_of_eight(state, block, line);
     }
-    nmru_step(k, state, block)
+    // Fewer ways do not look at the table, so the compiler leaves it out.
+    let next = next::next_bits();
+    state.nmru(k, block, line, &next)
 }
 
 // "a refused step hands back the state it was given"

@@ -1,11 +1,15 @@
 -- `machine::take_step` meets its contract.
 use native.Mathlib.Omega.{arith}
 use borrow.Author.Needs.{needs}
-use mathlib.Core.Path.{sym, _∙_, refl, ap}
+use Prim.Native.Nat.{ℕ, _+_, _^_, _<_}
+use mathlib.Core.Path.{_≡_, sym, _∙_, refl, ap, subst}
 use borrow.Author.Tests.{eq-eqb, ne-eqb}
+use Rattle.paper.specs.declared.Line.{Line}
+use Rattle.paper.specs.declared.SetState.{SetState}
 use Rattle.paper.specs.declared.Shift.{Shift}
-use Rattle.paper.specs.Machines.{step}
-use Rattle.paper.specs.Shifts.{shiftAt}
+use Rattle.paper.specs.Machines.{step, nmruStep}
+use Rattle.paper.specs.Ready.{Ready}
+use Rattle.paper.specs.Shifts.{shiftAt, lineFor}
 use Rattle.paper.proofs.Says.{says-true}
 use Rattle.paper.proofs.States.{says-offered}
 use Rattle.paper.proofs.MoveLaws.{legal-ready, nmru-bits}
@@ -41,29 +45,48 @@ returns-2 : tie.Need-returns-2
 unfolding step
 returns-2 c = c .fifo .ensures ∙ sym (rw (step, ne-eqb _ _ (c .before .before .before .if1 .left), eq-eqb _ _ (c .before .before .if2 .taken)))
 
-nmru-step-requires : tie.Need-nmru-step-requires
-nmru-step-requires c κs =
-    let s = c .before .before .before in
+line-requires : tie.Need-line-requires
+line-requires c κs =
+    let s = c .before .before in
     let o = says-true (says-offered _ _) (s .pre .0) in
     (legal-ready _ _ _ (s .pre .1 .0) o, (s .pre .1 .1, nmru-bits _ _ _ (s .pre .1 .0) (omega (arith, o .known))))
+
+-- what the step of eight ways asks, for as many ways as there are
+abbrev Asked : SetState → ℕ → Line → ℕ → Type 0
+Asked s b line k = Ready k (s .lines) × ((s .bits + 1 < 2 ^ k) × (line ≡ lineFor k s b))
+
+step-of-eight-requires : tie.Need-step-of-eight-requires
+step-of-eight-requires c κs =
+    let l = c .before in
+    let s = l .before .before .before in
+    let o = says-true (says-offered _ _) (s .pre .0) in
+    subst
+    (Asked (s .args .state) (s .args .block .0) (l .line .result))
+    (c .if3 .taken)
+    (legal-ready _ _ _ (s .pre .1 .0) o, (nmru-bits _ _ _ (s .pre .1 .0) (omega (arith, o .known)), l .line .ensures))
 
 returns-3 : tie.Need-returns-3
 unfolding step
 returns-3 c =
-    let d = c .before .before in
-    c .nmru-step .ensures ∙ sym (rw (step, ne-eqb _ _ (d .before .if1 .left), ne-eqb _ _ (d .if2 .left)))
+    let d = c .before .before .before in
+    let a = d .before .before .args in
+    c .step-of-eight .ensures
+    ∙ ap (λ (k : ℕ). nmruStep k (a .state) (a .block .0)) (sym (c .before .if3 .taken))
+    ∙ sym (rw (step, ne-eqb _ _ (d .before .if1 .left), ne-eqb _ _ (d .if2 .left)))
 
-nmru-step-requires-2 : tie.Need-nmru-step-requires-2
-nmru-step-requires-2 c κs =
-    let s = c .before .before .before in
+nmru-requires : tie.Need-nmru-requires
+nmru-requires c κs =
+    let l = c .before .before .before in
+    let s = l .before .before .before in
     let o = says-true (says-offered _ _) (s .pre .0) in
-    (legal-ready _ _ _ (s .pre .1 .0) o, (s .pre .1 .1, nmru-bits _ _ _ (s .pre .1 .0) (omega (arith, o .known))))
+    (legal-ready _ _ _ (s .pre .1 .0) o, (nmru-bits _ _ _ (s .pre .1 .0) (omega (arith, o .known)), (l .line .ensures, c .before .next-bits .ensures)))
 
 returns-4 : tie.Need-returns-4
 unfolding step
 returns-4 c =
-    let d = c .before .before in
-    c .nmru-step2 .ensures ∙ sym (rw (step, ne-eqb _ _ (d .before .if1 .left), ne-eqb _ _ (d .if2 .left)))
+    let l = c .before .before .before .before in
+    let d = l .before in
+    c .nmru .ensures ∙ sym (rw (step, ne-eqb _ _ (d .before .if1 .left), ne-eqb _ _ (d .if2 .left)))
 
 pub take-step-spec : {M : Type 1} → statement M
 take-step-spec =
@@ -76,7 +99,9 @@ take-step-spec =
     kept-from-requires
     fifo-requires
     returns-2
-    nmru-step-requires
+    line-requires
+    step-of-eight-requires
     returns-3
-    nmru-step-requires-2
+    (λ c κs. search needs)
+    nmru-requires
     returns-4)
