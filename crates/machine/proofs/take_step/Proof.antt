@@ -60,9 +60,10 @@ step-of-eight-requires c κs =
     let l = c .before in
     let s = l .before .before .before in
     let o = says-true (says-offered _ _) (s .pre .0) in
+    let e : s .args .k ≡ 8 = omega (arith, c .if3 .taken) in
     subst
     (Asked (s .args .state) (s .args .block .0) (l .line .result))
-    (c .if3 .taken)
+    e
     (legal-ready _ _ _ (s .pre .1 .0) o, (nmru-bits _ _ _ (s .pre .1 .0) (omega (arith, o .known)), l .line .ensures))
 
 returns-3 : tie.Need-returns-3
@@ -70,8 +71,9 @@ unfolding step
 returns-3 c =
     let d = c .before .before .before in
     let a = d .before .before .args in
+    let e : 8 ≡ a .k = omega (arith, c .before .if3 .taken) in
     c .step-of-eight .ensures
-    ∙ ap (λ (k : ℕ). nmruStep k (a .state) (a .block .0)) (sym (c .before .if3 .taken))
+    ∙ ap (λ (k : ℕ). nmruStep k (a .state) (a .block .0)) e
     ∙ sym (rw (step, ne-eqb _ _ (d .before .if1 .left), ne-eqb _ _ (d .if2 .left)))
 
 nmru-requires : tie.Need-nmru-requires
