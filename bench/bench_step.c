@@ -28,7 +28,8 @@ int main(int argc, char **argv)
     int hit = strcmp(argv[4], "hit") == 0, empty = strcmp(argv[4], "empty") == 0;
     uint64_t steps = strtoul(argv[5], NULL, 10), returned = 0, left = 0;
     for (uint64_t i = 0; i < steps; i++) {
-        /* Blocks 1 to k stand in the lines. Line j, which is each of the k in turn, has the block that is accessed, or is the lowest whose bit is 0, and with "empty" it is. */
+        /* Blocks 1 to k stand in the lines. Line j, each of the k in turn, has the block of a hit; at a miss it is the lowest whose bit is
+         * 0, and with "empty" the only empty one. */
         uint16_t lines[MOST_WAYS];
         unsigned j = (unsigned)(i % ways);
         uint8_t bits = policy == NMRU ? (uint8_t)((1u << j) - 1) : 0;
