@@ -81,6 +81,7 @@ static __attribute__((target("ssse3"))) uint64_t fifo(ARGUMENTS)
     RUN(, if (!found) row = down(row, b) | beyond;)
 }
 
+/* In a run from empty sets with bits 0 the lowest line whose bit is 0 is the lowest empty one while there is one: the bits alone tell. */
 static __attribute__((target("ssse3"))) uint64_t nmru(ARGUMENTS)
 {
     const lines own = {1, 2, 4, 8, 16, 32, 64, 128};

@@ -10,4 +10,6 @@ uint8_t plain_trace_run(uint8_t policy, uint8_t ways, uint8_t sets, const uint16
 uint8_t hand_trace_run(uint8_t policy, uint8_t ways, uint8_t sets, const uint16_t *blocks, size_t blocks_length, uint8_t *marks,
                        size_t marks_length, uint64_t *misses, uint64_t *place);
 
+uint8_t plain_step(uint8_t policy, uint8_t ways, uint16_t lines[8], uint8_t *bits, uint16_t block);
+
 uint8_t plain_check(const uint8_t *file, size_t file_length, uint64_t *numbers, size_t numbers_length, uint64_t *place, uint64_t *second);

@@ -51,6 +51,7 @@ uint8_t bolgverk_trace_run(uint8_t policy, uint8_t ways, uint8_t sets, const uin
  *   lines                    the set's eight lines, 65,535 for an empty one, those from `ways` on empty; changed in place
  *   bits                     the set's bits: bit i of value 2^i is line i's, all 0 for LRU and FIFO; changed in place
  *   block                    the block accessed
+ * An NMRU miss takes the lowest empty line, whatever its bit, and only where none of the ways is empty the lowest line whose bit is 0.
  * Returns 0 for a hit, 1 for a miss, else the refusal's number: 3, 22, 21, tested in this order. Its place is 0, and a refused step
  * leaves lines and bits as they were. */
 uint8_t bolgverk_step(uint8_t policy, uint8_t ways, uint16_t lines[8], uint8_t *bits, uint16_t block);

@@ -27,10 +27,13 @@ fn an_lru_hit_moves_only_what_is_before_it() {
     assert_eq!(step(0, 4, &state([HOLE, 7, HOLE, 9], 0), 7), Ok((Outcome::Hit, state([7, HOLE, HOLE, 9], 0))));
 }
 
-/// "A miss takes the lowest line whose bit is 0, even where another line is empty."
+/// "puts a missed block in the lowest empty line, whatever its bit says, and looks at bits only when no line is empty"
 #[test]
-fn an_nmru_miss_passes_holes_by() {
-    assert_eq!(step(2, 4, &state([HOLE, 7, 8, 9], 1), 5), Ok((Outcome::Miss, state([HOLE, 5, 8, 9], 3))));
+fn an_nmru_miss_fills_the_lowest_hole() {
+    assert_eq!(step(2, 4, &state([HOLE, 7, 8, 9], 1), 5), Ok((Outcome::Miss, state([5, 7, 8, 9], 1))));
+    assert_eq!(step(2, 4, &state([7, 8, HOLE, HOLE], 12), 5), Ok((Outcome::Miss, state([7, 8, 5, HOLE], 12))));
+    assert_eq!(step(2, 4, &state([7, 8, 9, HOLE], 7), 5), Ok((Outcome::Miss, state([7, 8, 9, 5], 8))));
+    assert_eq!(step(2, 4, &state([6, 7, 8, 9], 1), 5), Ok((Outcome::Miss, state([6, 5, 8, 9], 3))));
 }
 
 /// "Step: 3, 22, 21", and each of them alone.

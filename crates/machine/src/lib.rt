@@ -32,8 +32,12 @@ fn take_step(policy: u8, k: usize, state: SetState, block: Block) -> Stepped
     if policy == paper::FIFO {
         return state.fifo(k, block, paper::kept_from(k));
     }
+    let line = state.line(k, block);
+    if k == 8 {
+        return next::step_of_eight(state, block, line);
+    }
+    // Fewer ways do not look at the table, so the compiler leaves it out.
     let next = next::next_bits();
-    let line = state.line(k, block, 0);
     state.nmru(k, block, line, &next)
 }
 

@@ -9,7 +9,7 @@ use borrow.Author.Tests.{eq-eqb, ne-eqb, eqb-true, eqb-false}
 use lib.Bits.{bitOr, or-zero-r, or-shr, or-mod, or-lt}
 use lib.Pow.{shr-shr, pow-pos, pow-lt, pow-mono}
 use Rattle.paper.specs.Machines.{bitAt, victim, marked}
-use Rattle.paper.proofs.Least.{least-before, least-at}
+use Rattle.paper.proofs.Least.{least-before, least-at, least-is}
 
 pub bit-zero : (m : ℕ) → bitAt m 0 ≡ m % 2
 unfolding bitAt
@@ -24,6 +24,10 @@ bit-suc m i =
 pub bit-le : (m i : ℕ) → bitAt m i ≤ 1
 unfolding bitAt
 bit-le m i = omega arith
+
+pub bit-none : (i : ℕ) → bitAt 0 i ≡ 0
+unfolding bitAt
+bit-none i = ap (λ (n : ℕ). n % 2) (div-eq-of-lt (pow-pos i))
 
 -- 2 ^ j has the bit of line j alone
 pub bit-alone : (i j : ℕ) → i ≢ j → bitAt (2 ^ j) i ≡ 0
@@ -77,6 +81,18 @@ module _ (k m : ℕ) where
 
     pub victim-zero : bitAt m (victim k m) ≡ 0
     victim-zero = eqb-true (bitAt m (victim k m)) 0 (unfold victim in least-at _ k victim-low)
+
+-- and it is the only such line
+pub victim-is : (k m j : ℕ) → j < k → bitAt m j ≡ 0 → ((i : ℕ) → i < j → bitAt m i ≡ 1) → victim k m ≡ j
+unfolding victim
+victim-is k m j l z o =
+    least-is _ k
+    (record {
+      at = j;
+      below = l;
+      none = λ i h. ne-eqb (bitAt m i) 0 (omega (arith, o i h));
+      holds = eq-eqb (bitAt m j) 0 z;
+    })
 
 -- The bits n after an access of line j, where they were m before. "if then all k bits are 1, all the others become 0"
 pub data Rest (k m j n : ℕ) : Type 0 where

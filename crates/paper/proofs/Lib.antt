@@ -16,6 +16,7 @@ pub mod FileLaws
 pub mod TestLaws
 pub mod Numbers
 pub mod LineLaws
+pub mod Fillings
 pub mod Masks
 pub mod MoveLaws
 pub mod StepLaws

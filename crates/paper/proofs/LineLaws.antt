@@ -8,14 +8,16 @@ use mathlib.Core.Logic.{_≢_}
 use mathlib.Core.Bool.{Bool, true, false, cond}
 use mathlib.Core.List.{List, [], _∷_}
 use lib.Dec.{eqb, ltb}
-use lib.ListN.{length, getD, take, drop, set, length-set, length-append, length-take, length-drop}
+use lib.ListN.{length, getD, take, drop, set, length-set, length-append, length-take, length-drop, drop-of-length-le}
 use lib.Pow.{pow-lt, pow-mono}
-use lib.Seq.{getD-set-same, getD-set-other}
-use borrow.Author.Tests.{eq-eqb, ne-eqb, lt-ltb, le-ltb}
+use lib.Seq.{drop-cons, getD-set-same, getD-set-other}
+use borrow.Author.Tests.{eq-eqb, ne-eqb, lt-ltb, le-ltb, ltb-true}
 use Rattle.paper.specs.Lists.{table}
-use Rattle.paper.specs.Machines.{none, lineOf, hits, pushed}
+use Rattle.paper.specs.declared.SetState.{SetState}
+use Rattle.paper.specs.Machines.{none, lineOf, hits, lineOr, missLine, nmruLine, pushed}
 use Rattle.lines.specs.Lines.{eight, eightSum, weightOf, weighed, keptAfter, movedBy, replacedBy}
 use Rattle.paper.specs.Shifts.{keptFrom}
+use Rattle.paper.proofs.Bits.{victim-low}
 use Rattle.paper.proofs.States.{Distinct, line-at}
 use Rattle.paper.proofs.TableLaws.{getD-table, length-table, same-table, table-is}
 
@@ -55,6 +57,20 @@ replaced-set l m j b e f =
       | no n ↦ rw (ne-eqb m (2 ^ i) (λ q. bit-apart j i n (sym f ∙ q))) (sym (getD-set-other l j i b 0 (λ q. n (sym q))))
     ])
 
+-- a search through the lines is at line i
+module _ (l : List ℕ) (i : ℕ) (h : i < length l) where
+  pub line-here : (b : ℕ) → getD l i 0 ≡ b → lineOf (drop i l) b ≡ 0
+  unfolding lineOf
+  line-here b e = rw (drop-cons l i 0 h, eq-eqb _ _ e)
+
+  pub line-on : (b : ℕ) → (getD l i 0 ≡ b → ⊥) → lineOf (drop i l) b ≡ suc (lineOf (drop (suc i) l) b)
+  unfolding lineOf
+  line-on b e = rw (drop-cons l i 0 h, ne-eqb _ _ e)
+
+pub line-end : (l : List ℕ) (i b : ℕ) → length l ≤ i → lineOf (drop i l) b ≡ 0
+unfolding lineOf
+line-end l i b h = rw (drop-of-length-le l {i = i} h)
+
 -- of the first k lines, the search through all of them finds the same
 pub line-take : (k : ℕ) (l : List ℕ) (b : ℕ) → k ≤ length l → lineOf (take k l) b ≡ min k (lineOf l b)
 unfolding lineOf
@@ -75,6 +91,28 @@ module _ (k : ℕ) (l : List ℕ) (b j : ℕ) (fits : k ≤ length l) (e : j ≡
   pub hit-no : k ≤ j → hits k l b ≡ false
   unfolding hits
   hit-no h = le-ltb _ k (omega (arith, line-take k l b fits))
+
+  pub or-found : (d : ℕ) → j < k → j ≡ lineOr k l b d
+  unfolding lineOr
+  or-found d h = rw (hit-yes h, ← line-hit h)
+
+  pub or-other : (d : ℕ) → k ≤ j → d ≡ lineOr k l b d
+  unfolding lineOr
+  or-other d h = rw (hit-no h)
+
+-- the line is one of the k where the other is
+or-low : (k : ℕ) (l : List ℕ) (b j : ℕ) → j < k → lineOr k l b j < k
+unfolding lineOr hits
+or-low k l b j h = go (ltb (lineOf (take k l) b) k) refl
+  where
+    go : (t : Bool) → ltb (lineOf (take k l) b) k ≡ t → cond t (lineOf (take k l) b) j < k
+    go true e = ltb-true (lineOf (take k l) b) k e
+    go false e = h
+
+-- so an NMRU access goes to one of the k
+pub nmru-low : (k : ℕ) (s : SetState) (b : ℕ) → s .bits + 1 < 2 ^ k → nmruLine k s b < k
+unfolding nmruLine missLine
+nmru-low k s b h = or-low k (s .lines) b _ (or-low k (s .lines) none _ (victim-low k (s .bits) (omega arith)))
 
 -- "no block stands in two lines", so the sum over the lines that hold b has one summand at most
 rest-distinct : (x : ℕ) (l : List ℕ) → Distinct (x ∷ l) → Distinct l

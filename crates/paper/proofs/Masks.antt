@@ -13,8 +13,7 @@ use Rattle.paper.specs.Machines.{bitAt, victim, marked}
 use Rattle.paper.specs.NextBits.{nextBits}
 use Rattle.paper.specs.Shifts.{Bit, markedBy}
 use Rattle.paper.proofs.TableLaws.{getD-table}
-use Rattle.paper.proofs.Least.{least-is}
-use Rattle.paper.proofs.Bits.{bit-zero, bit-suc, all-ones}
+use Rattle.paper.proofs.Bits.{bit-zero, bit-suc, all-ones, victim-is}
 
 -- half of p's complement in m + 1 bits is the complement of p's half, and its lowest bit is 1 where p's is 0
 half-not : (q p : ℕ) → p < q * 2 → (q * 2 - 1 - p) / 2 ≡ q - 1 - p / 2
@@ -50,20 +49,11 @@ zeros (suc m) p w =
     more n r (suc i) h = bit-suc p i ∙ r i (le-of-suc-le-suc h)
 
 pub victim-zeros : (m k p : ℕ) → k ≤ m → p + 1 < 2 ^ k → trailingZeros m (2 ^ m - 1 - p) ≡ victim k p
-unfolding victim
 victim-zeros m k p h g =
     let t = trailingZeros m (2 ^ m - 1 - p) in
     let z = zeros m p (omega (arith, pow-mono {i = k} {j = m} h)) in
     elim (decLt t k) [
-      | yes l ↦
-          sym
-          (least-is _ k
-          (record {
-            at = t;
-            below = l;
-            none = λ i q. ne-eqb (bitAt p i) 0 (omega (arith, z .0 i q));
-            holds = eq-eqb (bitAt p t) 0 (z .1 (omega arith));
-          }))
+      | yes l ↦ sym (victim-is k p t l (z .1 (omega arith)) (z .0))
       | no l ↦ absurd (omega (arith, all-ones k p (λ i q. z .0 i (omega arith))))
     ]
 

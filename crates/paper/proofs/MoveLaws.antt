@@ -4,7 +4,7 @@ use native.Mathlib.Decide.{decLt}
 use native.Mathlib.Omega.{arith}
 use mathlib.Core.Path.{_≡_, refl, sym, _∙_, ap}
 use mathlib.Core.Logic.{_≢_}
-use mathlib.Core.Bool.{Bool, true, false}
+use mathlib.Core.Bool.{true, false}
 use mathlib.Core.List.{List}
 use lib.ListN.{length, getD, take, drop, set}
 use lib.Dec.{ltb}
@@ -12,14 +12,13 @@ use lib.Seq.{set-getD, getD-drop}
 use borrow.Author.Tests.{lt-ltb, le-ltb, ltb-true}
 use Rattle.paper.specs.declared.SetState.{SetState}
 use Rattle.paper.specs.declared.Line.{Line}
-use Rattle.paper.specs.Machines.{none, lineOf, hits, oneDown, victim, marked, nmruLine, lruStep, fifoStep, nmruStep, distinct, empty, legal}
+use Rattle.paper.specs.Machines.{none, lineOf, hits, oneDown, marked, lineOr, missLine, nmruLine, lruStep, fifoStep, nmruStep, distinct, empty, legal}
 use Rattle.paper.specs.Ready.{Ready, stateOf, steppedOf}
 use Rattle.lines.specs.Lines.{weightOf, weighed, keptAfter, movedBy, replacedBy}
 use Rattle.paper.specs.Shifts.{keptFrom, Bit, markedBy, lineFor}
 use Rattle.paper.proofs.Says.{says-true, both}
 use Rattle.paper.proofs.States.{Offered, legal-few, says-legal, says-distinct, says-empty, line-at}
-use Rattle.paper.proofs.Bits.{victim-low}
-use Rattle.paper.proofs.LineLaws.{weighed-walk, line-take, line-hit, hit-yes, hit-no, weighed-none, weighed-found, weight-bit, replaced-set, moved-pushed, kept-none, kept-line}
+use Rattle.paper.proofs.LineLaws.{weighed-walk, line-take, line-hit, hit-yes, hit-no, nmru-low, weighed-none, weighed-found, weight-bit, replaced-set, moved-pushed, kept-none, kept-line}
 
 -- what a step on the lines asks for, of a legal state
 module _ (p k : ℕ) (s : SetState) (l : legal p k s ≡ true) where
@@ -91,23 +90,18 @@ module _ (k : ℕ) (l : List ℕ) (n b w : ℕ) (r : Ready k l) (c : b ≢ none)
   line-low h = omega (arith, hit-line h .0)
 
   pub nmru-stands : 0 < w → (record { bit = 255 - w; hit = true }) ≡ lineFor k (stateOf l n) b
-  unfolding lineFor nmruLine
+  unfolding lineFor nmruLine lineOr
   nmru-stands h =
       let y = hit-line h in
       let z : 255 - w ≡ 2 ^ lineOf l b = omega (arith, y .0, weight-bit (lineOf l b) (omega (arith, r .high)) .1) in
       rw (hit-yes k l b _ fits refl (y .1), ← line-hit k l b _ fits refl (y .1), z)
 
-  pub nmru-absent : (m : ℕ) → w ≤ 0 → m ≡ 2 ^ victim k n → (record { bit = m; hit = false }) ≡ lineFor k (stateOf l n) b
-  unfolding lineFor nmruLine
+  pub nmru-absent : (m : ℕ) → w ≤ 0 → m ≡ 2 ^ missLine k (stateOf l n) → (record { bit = m; hit = false }) ≡ lineFor k (stateOf l n) b
+  unfolding lineFor nmruLine lineOr
   nmru-absent m h g = rw (hit-no k l b _ fits refl (omega (arith, r .high, miss-line h)), g)
 
 -- an NMRU step at the access's line
 module _ (k : ℕ) (l : List ℕ) (n b : ℕ) (r : Ready k l) (few : n + 1 < 2 ^ k) (e : length l ≡ 8) where
-  line-within : (t : Bool) → hits k l b ≡ t → nmruLine k (stateOf l n) b < k
-  unfolding nmruLine hits
-  line-within true h = rw h (ltb-true (lineOf (take k l) b) k h)
-  line-within false h = rw h (victim-low k n (omega arith))
-
   module _ (t : Line) (f : t ≡ lineFor k (stateOf l n) b) where
     bit-is : t .bit ≡ 2 ^ nmruLine k (stateOf l n) b
     unfolding lineFor
@@ -118,14 +112,14 @@ module _ (k : ℕ) (l : List ℕ) (n b : ℕ) (r : Ready k l) (few : n + 1 < 2 ^
     hit-is = ap (λ (x : Line). x .hit) f
 
     pub line-bit : Bit k (t .bit)
-    line-bit = record { at = nmruLine k (stateOf l n) b; low = line-within (hits k l b) refl; is = bit-is }
+    line-bit = record { at = nmruLine k (stateOf l n) b; low = nmru-low k (stateOf l n) b few; is = bit-is }
 
     bits-are : (q : ℕ) → q ≡ markedBy k n (t .bit) → q ≡ marked k n (nmruLine k (stateOf l n) b)
     unfolding markedBy marked
     bits-are q g = g ∙ ap (markedBy k n) bit-is
 
     same-line : hits k l b ≡ true → set l (nmruLine k (stateOf l n) b) b ≡ l
-    unfolding nmruLine hits
+    unfolding nmruLine lineOr hits
     same-line h =
         let j = lineOf (take k l) b in
         let y : j < k = ltb-true j k h in

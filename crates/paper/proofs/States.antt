@@ -13,7 +13,7 @@ use lib.Pow.{pow-pos}
 use lib.Seq.{getD-take, getD-drop, length-take-le}
 use Rattle.paper.specs.declared.SetState.{SetState}
 use Rattle.paper.specs.Policies.{waysFrom}
-use Rattle.paper.specs.Machines.{none, emptySet, lineOf, hits, offered, setCount, inRange, stands, distinct, empty, legalBits, legal, bitAt, victim}
+use Rattle.paper.specs.Machines.{none, emptySet, lineOf, hits, lineOr, missLine, offered, setCount, inRange, stands, distinct, empty, legalBits, legal, bitAt, victim}
 use Rattle.paper.proofs.Says.{Says, holds, fails, says-lt, says-le, says-and, says-as, says-is, says-true}
 use Rattle.paper.proofs.Bits.{victim-ones, victim-low, victim-zero, few-bits}
 
@@ -210,3 +210,23 @@ pub victim-lowest :
 victim-lowest k s h =
     let few = legal-few 2 k (s .bits) (omega arith) (says-true (says-legal 2 k s) h .bits) in
     (victim-low k (s .bits) few, victim-zero k (s .bits) few, victim-ones k (s .bits))
+
+-- "the lowest empty line, whatever its bit says", and "bits only when no line is empty": what the definition of a missed block's line says.
+pub data Missed (k : ℕ) (s : SetState) (j : ℕ) : Type 0 where
+  fills : j < k → getD (s .lines) j none ≡ none → ((i : ℕ) → i < j → getD (s .lines) i none ≢ none) → Missed k s j
+  clears : ((i : ℕ) → i < k → getD (s .lines) i none ≢ none) → j ≡ victim k (s .bits) → Missed k s j
+
+pub miss-lowest : (k : ℕ) (s : SetState) → k ≤ length (s .lines) → Missed k s (missLine k s)
+unfolding missLine lineOr hits
+miss-lowest k s h = go (says-lt (lineOf (take k (s .lines)) none) k)
+  where
+    -- no line of the k before the one that is found is empty
+    before : (i : ℕ) → i < k → getD (s .lines) i none ≡ none → lineOf (take k (s .lines)) none ≤ i
+    before i l e = line-least (take k (s .lines)) none none i (omega (arith, length-take-le k (s .lines) h)) (getD-take k (s .lines) i none l ∙ e)
+
+    go : {t : Bool} → Says (lineOf (take k (s .lines)) none < k) t → Missed k s (cond t (lineOf (take k (s .lines)) none) (victim k (s .bits)))
+    go (holds l) =
+        fills l
+        (sym (getD-take k (s .lines) _ none l) ∙ line-at (take k (s .lines)) none none (omega (arith, length-take-le k (s .lines) h)))
+        (λ i g e. omega (arith, before i (omega arith) e))
+    go (fails n) = clears (λ i g e. n (omega (arith, before i g e))) refl

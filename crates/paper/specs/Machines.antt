@@ -8,7 +8,7 @@ use Rattle.paper.specs.declared.SetState.{SetState}
 use Rattle.paper.specs.declared.Stepped.{Stepped}
 use Rattle.paper.specs.Policies.{lastPolicy, partsOf}
 pub use Rattle.paper.specs.Steps.{none, oneDown}
-unfoldable pub use Rattle.paper.specs.Steps.{lineOf, hits, pushed, lruStep, fifoStep, bitAt, victim, marked, nmruLine, nmruStep}
+unfoldable pub use Rattle.paper.specs.Steps.{lineOf, hits, pushed, lruStep, fifoStep, bitAt, victim, marked, lineOr, missLine, nmruLine, nmruStep}
 
 -- "all sets start empty with bits 0"
 abbrev pub emptySet : SetState

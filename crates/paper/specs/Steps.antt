@@ -54,7 +54,7 @@ fifoStep k s b =
 unfoldable pub bitAt : ℕ → ℕ → ℕ
 bitAt bits i = bits / 2 ^ i % 2
 
--- "A miss takes the lowest line whose bit is 0, even where another line is empty."
+-- "the lowest line whose bit is 0"
 unfoldable pub victim : ℕ → ℕ → ℕ
 victim k bits = least (λ i. eqb (bitAt bits i) 0) k
 
@@ -62,9 +62,17 @@ victim k bits = least (λ i. eqb (bitAt bits i) 0) k
 unfoldable pub marked : ℕ → ℕ → ℕ → ℕ
 marked k bits j = cond (eqb (bitOr bits (2 ^ j) % 2 ^ k) (2 ^ k - 1)) (2 ^ j) (bitOr bits (2 ^ j))
 
+-- Of the k ways the lowest that b stands in; j where it stands in none of them.
+unfoldable pub lineOr : ℕ → List ℕ → ℕ → ℕ → ℕ
+lineOr k lines b j = cond (hits k lines b) (lineOf (take k lines) b) j
+
+-- "puts a missed block in the lowest empty line, whatever its bit says, and looks at bits only when no line is empty" (02, item 2). An empty line holds 65,535, so it is found as a block is.
+unfoldable pub missLine : ℕ → SetState → ℕ
+missLine k s = lineOr k (s .lines) none (victim k (s .bits))
+
 -- "NMRU": the line that an access of b goes to.
 unfoldable pub nmruLine : ℕ → SetState → ℕ → ℕ
-nmruLine k s b = cond (hits k (s .lines) b) (lineOf (take k (s .lines)) b) (victim k (s .bits))
+nmruLine k s b = lineOr k (s .lines) b (missLine k s)
 
 unfoldable pub nmruStep : ℕ → SetState → ℕ → Stepped
 nmruStep k s b =

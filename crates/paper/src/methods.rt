@@ -2,9 +2,9 @@
 ghost use mathlib.Core.Path.{_≡_};
 ghost use mathlib.Core.Logic.{_≢_};
 ghost use Prim.Native.Nat.{_+_, _^_, _<_, _≤_};
-ghost use Rattle.paper.specs.Machines.{none, victim, lruStep, fifoStep, nmruStep};
+ghost use Rattle.paper.specs.Machines.{none, lineOf, victim, missLine, lruStep, fifoStep, nmruStep};
 ghost use Rattle.paper.specs.NextBits.{nextBits};
-ghost use Rattle.paper.specs.Ready.{Ready, steppedOf};
+ghost use Rattle.paper.specs.Ready.{Ready, stateOf, steppedOf};
 ghost use Rattle.lines.specs.Lines.{weighed};
 ghost use Rattle.paper.specs.Shifts.{keptFrom, shiftBy, shiftAt, Bit, markedBy, lineFor};
 use crate::Block;
@@ -17,13 +17,40 @@ use lines::moved;
 use lines::replaced;
 use lines::weight;
 
-// "A miss takes the lowest line whose bit is 0": that bit's value. At least one of the low k is.
+// "the lowest line whose bit is 0": that bit's value. At least one of the low k is.
 fn lowest_clear(bits: u8, k: usize) -> u16
     requires { ⌜ (k ≤ 8) × (bits + 1 < 2 ^ k) ⌝ }
     ensures { λ r. ⌜ r ≡ 2 ^ victim k bits ⌝ }
 {
     let p = bits as u16;
     !p & (p + 1)
+}
+
+// The lowest empty line, 8 where none is. It goes through all eight, so that the compiler can do without a loop.
+fn lowest_empty(lines: [u16; 8]) -> usize
+    ensures { λ r. ⌜ r ≡ lineOf lines none ⌝ }
+    ensures { λ r. ⌜ r ≤ 8 ⌝ }
+{
+    let mut i: usize = 0;
+    while i < 8 {
+        if lines[i] == 65535 {
+            return i;
+        }
+        i += 1;
+    }
+    8
+}
+
+// "puts a missed block in the lowest empty line, whatever its bit says, and looks at bits only when no line is empty": the value of that line's bit.
+fn missed_bit(lines: [u16; 8], bits: u8, k: usize) -> u16
+    requires { ⌜ (k ≤ 8) × (bits + 1 < 2 ^ k) ⌝ }
+    ensures { λ r. ⌜ r ≡ 2 ^ missLine k (stateOf lines bits) ⌝ }
+{
+    let i = lowest_empty(lines);
+    if i < k {
+        return 1 << i;
+    }
+    lowest_clear(bits, k)
 }
 
 // "The accessed line's bit becomes 1; if then all k bits are 1, all the others become 0." The line comes by its bit's value. For eight ways from the table.
@@ -129,11 +156,34 @@ impl SetState {
         stepped(moved(beyond, lines, block.0), self.bits, false)
     }
 
-    // The line that an NMRU access goes to. A guess at its bit comes with the block: where it is right the processor need not wait for the search, and where it is not nothing else changes.
-    pub fn line(self, k: usize, block: Block, guess: u8) -> Line
+    // The line that an NMRU access goes to.
+    pub fn line(self, k: usize, block: Block) -> Line
         requires { ⌜ Ready k (self .lines) ⌝ }
         requires { ⌜ block .0 ≢ none ⌝ }
         requires { ⌜ self .bits + 1 < 2 ^ k ⌝ }
+        ensures { λ r. ⌜ r ≡ lineFor k self (block .0) ⌝ }
+    {
+        let lines = self.lines;
+        let w = weight(lines, block.0);
+        if 0 < w {
+            return Line {
+                bit: 255 - w,
+                hit: true,
+            };
+        }
+        Line {
+            bit: missed_bit(lines, self.bits, k),
+            hit: false,
+        }
+    }
+
+    // The same where the bits alone tell a missed block's line, as they do in a run from empty sets. A guess at the line's bit comes with the block: where it is right the processor need not wait for the search,
+    // and where it is not nothing else changes.
+    pub fn line_by_bits(self, k: usize, block: Block, guess: u8) -> Line
+        requires { ⌜ Ready k (self .lines) ⌝ }
+        requires { ⌜ block .0 ≢ none ⌝ }
+        requires { ⌜ self .bits + 1 < 2 ^ k ⌝ }
+        requires { ⌜ missLine k self ≡ victim k (self .bits) ⌝ }
         ensures { λ r. ⌜ r ≡ lineFor k self (block .0) ⌝ }
     {
         let lines = self.lines;

@@ -11,11 +11,11 @@ use borrow.Author.Tests.{eq-eqb, ne-eqb}
 use Rattle.paper.specs.declared.SetState.{SetState}
 use Rattle.paper.specs.declared.Stepped.{Stepped}
 use Rattle.paper.specs.Lists.{bit}
-use Rattle.paper.specs.Machines.{emptySet, step}
+use Rattle.paper.specs.Machines.{emptySet, step, victim, missLine}
 use Rattle.paper.specs.Policies.{nmruPolicy}
 use Rattle.paper.specs.Ready.{Ready}
 use Rattle.runs.specs.TraceRuns.{held, heldApart, noLines, Runs}
-use Rattle.runs.proofs.Going.{Going, Access, going-start, going-same, going-more, set-ready, set-bits}
+use Rattle.runs.proofs.Going.{Going, Access, going-start, going-same, going-more, set-ready, set-bits, set-by-bits}
 use Rattle.runs.proofs.Held.{held-at, held-here, held-there, held-empty}
 
 module _ (l : List SetState) (at : ℕ) (s : SetState) where
@@ -97,6 +97,9 @@ module _ {p k sets : ℕ} {blocks lent : List ℕ} (ok : Runs p k sets blocks le
 
       pub apart-bits : p ≡ nmruPolicy → state .bits + 1 < 2 ^ k
       apart-bits e = set-bits ok (u .apart .going) state last (apart-here states last state) e
+
+      pub apart-by-bits : p ≡ nmruPolicy → missLine k state ≡ victim k (state .bits)
+      apart-by-bits e = set-by-bits ok (u .apart .going) state last (apart-here states last state) e
 
       -- the step's state is held apart in the place of the one before
       pub apart-more :

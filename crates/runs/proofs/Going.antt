@@ -15,7 +15,7 @@ use Rattle.paper.specs.declared.SetState.{SetState}
 use Rattle.paper.specs.declared.Sets.{Sets}
 use Rattle.paper.specs.declared.Stepped.{Stepped}
 use Rattle.paper.specs.Lists.{bit}
-use Rattle.paper.specs.Machines.{none, emptySet, step}
+use Rattle.paper.specs.Machines.{none, emptySet, step, victim, missLine}
 use Rattle.paper.specs.Policies.{nmruPolicy}
 use Rattle.paper.specs.Ready.{Ready}
 use Rattle.paper.specs.Shifts.{setsOf}
@@ -23,6 +23,7 @@ use Rattle.paper.specs.Traces.{Content, after, missAt, marks, total, badAccess}
 use Rattle.paper.specs.Runs.{LegalSet}
 use Rattle.paper.proofs.Says.{says-true}
 use Rattle.paper.proofs.States.{says-offered, empty-legal}
+use Rattle.paper.proofs.Fillings.{Filling, filling-empty, filling-line, filling-kept}
 use Rattle.paper.proofs.MoveLaws.{legal-ready, nmru-bits}
 use Rattle.theory.proofs.View as View
 use Rattle.runs.specs.TraceRuns.{made, Runs, Ran}
@@ -71,6 +72,8 @@ pub record Going (p k sets : ℕ) (blocks lent out : List ℕ) (c : Content) (mi
   pub few : misses ≤ i
   pub same : length out ≡ length lent
   pub legal : (q : ℕ) → LegalSet p k (c q)
+  -- no set has met a state in which an empty line and the bits tell two lines
+  pub filling : p ≡ nmruPolicy → (q : ℕ) → Filling k (c q)
 
 -- access i, and the set that its block lives in
 pub record Access (sets : ℕ) (blocks : List ℕ) (i at : ℕ) : Type 0 where
@@ -101,7 +104,13 @@ module _ {p k sets : ℕ} {blocks lent : List ℕ} (ok : Runs p k sets blocks le
         few = omega arith;
         same = refl;
         legal = λ q. subst (LegalSet p k) (sym (e q)) (record { eight = refl; legal = empty-legal p k (says-true (says-offered p k) (ok .offers) .least) });
+        filling = λ f q. subst (Filling k) (sym (e q)) (filling-empty k);
       }
+
+  -- "block 65,535 in a trace" is refused before
+  pub no-none : {i : ℕ} → i < length blocks → getD blocks i 0 ≢ none
+  unfolding badAccess
+  no-none {i} h = eqb-false (getD blocks i 0) none (ok .good i h)
 
   module _ {out : List ℕ} {c : Content} {misses i : ℕ} (g : Going p k sets blocks lent out c misses i) where
     -- the same states, held in another way
@@ -118,6 +127,9 @@ module _ {p k sets : ℕ} {blocks lent : List ℕ} (ok : Runs p k sets blocks le
 
       pub set-bits : p ≡ nmruPolicy → s .bits + 1 < 2 ^ k
       set-bits f = nmru-bits p k s (set-legal .legal) f
+
+      pub set-by-bits : p ≡ nmruPolicy → missLine k s ≡ victim k (s .bits)
+      set-by-bits f = filling-line k s (omega (arith, set-legal .eight, set-ready .high)) (subst (Filling k) e (g .filling f at))
 
     -- an access: the set's new state, its mark
     module _ {at : ℕ} (x : Access sets blocks i at) (t : Stepped) (took : t ≡ step p k (c at) (getD blocks i 0))
@@ -140,6 +152,17 @@ module _ {p k sets : ℕ} {blocks lent : List ℕ} (ok : Runs p k sets blocks le
           subst (λ (y : ℕ). LegalSet p k (d y)) (sym e)
           (subst (LegalSet p k) (sym set-is) (View.kept p k (c at) (getD blocks i 0) (ok .offers) (g .legal at)))
       kept q (no f) = subst (LegalSet p k) (sym (there q f)) (g .legal q)
+
+      fills : (f : p ≡ nmruPolicy) (q : ℕ) → Dec (q ≡ at) → Filling k (d q)
+      unfolding step
+      fills f q (yes e) =
+          let s = c at in
+          let b = getD blocks i 0 in
+          let r = set-ready s at refl in
+          subst (λ (y : ℕ). Filling k (d y)) (sym e)
+          (subst (Filling k) (sym (set-is ∙ ap (λ (y : ℕ). step y k s b .state) f))
+          (filling-kept k s b (no-none (x .within)) (omega (arith, g .legal at .eight, r .high)) (set-bits s at refl f) (g .filling f at)))
+      fills f q (no n) = subst (Filling k) (sym (there q n)) (g .filling f q)
 
       marked : (m : ℕ) → m ≡ bit (not (t .hit)) → m ≡ getD (made p k sets blocks) i 0
       unfolding missAt
@@ -165,6 +188,7 @@ module _ {p k sets : ℕ} {blocks lent : List ℕ} (ok : Runs p k sets blocks le
             few = omega (arith, g .few);
             same = length-set out i m ∙ g .same;
             legal = λ q. kept q (ℕ-discrete q at);
+            filling = λ f q. fills f q (ℕ-discrete q at);
           }
 
     pub going-end : length blocks ≤ i → Ran p k sets blocks lent misses out
@@ -173,11 +197,6 @@ module _ {p k sets : ℕ} {blocks lent : List ℕ} (ok : Runs p k sets blocks le
         let n : i ≡ length blocks = omega (arith, g .within) in
         let e : take i (made p k sets blocks) ≡ made p k sets blocks = take-all i (made p k sets blocks) (omega (arith, length-marks p k sets (λ q. emptySet) blocks)) in
         record { counted = g .counted ∙ ap total e; written = g .written ∙ ap₂ (λ (x : List ℕ) (y : ℕ). x ++ drop y lent) e n }
-
-  -- "block 65,535 in a trace" is refused before
-  pub no-none : {i : ℕ} → i < length blocks → getD blocks i 0 ≢ none
-  unfolding badAccess
-  no-none {i} h = eqb-false (getD blocks i 0) none (ok .good i h)
 
 -- the policy by its number
 pub runs-at : {p q k s : ℕ} {bs ms : List ℕ} → p ≡ q → Runs p k s bs ms → Runs q k s bs ms

@@ -104,7 +104,8 @@ fn nmru_run(k: usize, sets: u8, blocks: &[u16], marks: &mut [u8]) -> usize
             last = at;
         }
         let place = (b % 1024) as usize;
-        let line = state.line(k, Block(b), guesses[place] % 128 + 1);
+        // A run begins with empty sets and bits 0: the bits alone tell where a missed block goes.
+        let line = state.line_by_bits(k, Block(b), guesses[place] % 128 + 1);
         if !line.hit {
             guesses[place] = ((line.bit % 256 + 127) % 128) as u8;
         }

@@ -34,9 +34,13 @@ pub record LegalLines (k : ℕ) (l : List ℕ) : Type 0 where
   pub apart : Apart l
   pub lines-k : length l ≡ k
 
--- NMRU: the line that holds x, or "the lowest line whose bit is 0"
+-- the lowest line that holds x, and j where none does
+unfoldable pub at : ℕ → List ℕ → ℕ → ℕ
+at x l j = cond (eqb (cnt x l) 0) j (lineOf l x)
+
+-- NMRU: the line that holds x, or "the lowest empty line", or "the lowest line whose bit is 0"
 unfoldable pub spot : ℕ → ℕ → SetState → ℕ
-spot k x s = cond (eqb (cnt x (s .lines)) 0) (victim k (s .bits)) (lineOf (s .lines) x)
+spot k x s = at x (s .lines) (at none (s .lines) (victim k (s .bits)))
 
 abbrev pub nmru : ℕ → ℕ → SetState → SetState
 nmru k x s = record { lines = set (s .lines) (spot k x s) x; bits = marked k (s .bits) (spot k x s) }

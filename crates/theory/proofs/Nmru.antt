@@ -6,14 +6,13 @@ use mathlib.Core.List.{List, []}
 use native.Mathlib.Decide.{ℕ-discrete, decLe}
 use native.Mathlib.Omega.{arith}
 use lib.ListN.{length, getD}
-use lib.Seq.{getD-set-same, getD-set-other}
 use Rattle.paper.specs.declared.SetState.{SetState}
 use Rattle.paper.specs.Machines.{none, bitAt}
-use Rattle.paper.proofs.Bits.{Rest, same, flipped, marked-own, marked-rest}
+use Rattle.paper.proofs.Bits.{same, flipped}
 use Rattle.theory.proofs.Count.{sum, one, cnt, one-yes, one-no}
 use Rattle.theory.proofs.Ideal.{miss, spot, nmru, LegalWays}
-use Rattle.theory.proofs.Pigeon.{pigeon, line-holds}
-use Rattle.theory.proofs.Ways.{sum-set, alone, hit, new, goes, spot-low, legal-nmru}
+use Rattle.theory.proofs.Pigeon.{pigeon}
+use Rattle.theory.proofs.Ways.{hit, fill, new, goes, own, rest, stands, others, there, taken, swapped, stays-full, legal-nmru}
 use Rattle.theory.proofs.Law.{Machine, Fair, Law}
 
 abbrev pub NMRU : ℕ → Machine
@@ -27,35 +26,19 @@ abbrev Within : List ℕ → SetState → Type 0
 Within R s = (j : ℕ) → bitAt (s .bits) j ≡ 1 → 1 ≤ cnt (getD (s .lines) j none) R
 
 module _ (b n k : ℕ) (bb : b ≢ none) (nk : n < k) (k2 : 2 ≤ k) where
-  -- b after f misses in its stay. Lost, it has f lines below with the bit 1, all of them blocks of R; so it comes back above them, and f is at most n.
+  -- b after f misses in its stay. Lost, no line is empty, and none will be: a miss goes by the bits from then on. b has f lines below with the bit 1, all of them blocks of R; so it comes back above them, and f is at most n.
   data Held (R : List ℕ) (f : ℕ) (s : SetState) : Type 0 where
     here : (i : ℕ) → getD (s .lines) i none ≡ b → f ≤ suc i → f ≤ suc n → (bitAt (s .bits) i ≡ 1 ⊎ Within R s) → Held R f s
-    lost : cnt b (s .lines) ≡ 0 → Within R s → ((j : ℕ) → j < f → bitAt (s .bits) j ≡ 1) → Held R f s
-
-  module _ (x : ℕ) (s : SetState) (v : LegalWays k s) where
-    at-line : spot k x s < length (s .lines)
-    at-line = omega (arith, spot-low k x s v, v .lines-k)
-
-    own : bitAt (nmru k x s .bits) (spot k x s) ≡ 1
-    own = marked-own k (s .bits) (spot k x s) (spot-low k x s v) (omega (arith, v .few))
-
-    rest : Rest k (s .bits) (spot k x s) (nmru k x s .bits)
-    rest = marked-rest k (s .bits) (spot k x s) (spot-low k x s v) (omega (arith, v .few))
-
-    stands : getD (nmru k x s .lines) (spot k x s) none ≡ x
-    stands = getD-set-same (s .lines) (spot k x s) x none at-line
-
-    others : (i : ℕ) → i ≢ spot k x s → getD (nmru k x s .lines) i none ≡ getD (s .lines) i none
-    others i e = getD-set-other (s .lines) (spot k x s) i x none e
+    lost : cnt b (s .lines) ≡ 0 → cnt none (s .lines) ≡ 0 → Within R s → ((j : ℕ) → j < f → bitAt (s .bits) j ≡ 1) → Held R f s
 
   touched : (f : ℕ) (s : SetState) → LegalWays k s → f ≤ suc (spot k b s) → f ≤ suc n → Held [] f (nmru k b s)
-  touched f s v g h = here (spot k b s) (stands b s v) g h (inl (own b s v))
+  touched f s v g h = here (spot k b s) (stands k b s v) g h (inl (own k b s v))
 
   -- another block of R is accessed
   module _ (x : ℕ) (R : List ℕ) (s : SetState) (u : x ≢ b) (few : length R ≤ n) (real : cnt none R ≡ 0) (new∈ : 1 ≤ cnt x R) (v : LegalWays k s) where
     within : ((i : ℕ) → i ≢ spot k x s → bitAt (nmru k x s .bits) i ≡ 1 → 1 ≤ cnt (getD (s .lines) i none) R) → Within R (nmru k x s)
     within h i on =
-        elim (ℕ-discrete i (spot k x s)) [ yes e ↦ rw (e, stands x s v) new∈ | no e ↦ rw (others x s v i e) (h i e on) ]
+        elim (ℕ-discrete i (spot k x s)) [ yes e ↦ rw (e, stands k x s v) new∈ | no e ↦ rw (others k x s v i e) (h i e on) ]
 
     flip : ((i : ℕ) → i ≢ spot k x s → bitAt (nmru k x s .bits) i ≡ 0) → Within R (nmru k x s)
     flip off = within (λ i e on. absurd (omega (arith, off i e)))
@@ -63,14 +46,14 @@ module _ (b n k : ℕ) (bb : b ≢ none) (nk : n < k) (k2 : 2 ≤ k) where
     -- while every line with the bit 1 holds a block of R the bits do not flip: that would need k blocks of R
     kept : Within R s → (i : ℕ) → i ≢ spot k x s → bitAt (nmru k x s .bits) i ≡ bitAt (s .bits) i
     kept m =
-        elim (rest x s v) [
+        elim (rest k x s v) [
           | same i l e z h ↦ h
           | flipped ones off ↦
               absurd
               (omega (
                 arith,
                 pigeon k (nmru k x s .lines) R (legal-nmru k x s v k2 .apart) real λ i l.
-                    elim (ℕ-discrete i (spot k x s)) [ yes e ↦ rw (e, stands x s v) new∈ | no e ↦ rw (others x s v i e) (m i (ones i l e)) ],
+                    elim (ℕ-discrete i (spot k x s)) [ yes e ↦ rw (e, stands k x s v) new∈ | no e ↦ rw (others k x s v i e) (m i (ones i l e)) ],
               ))
         ]
 
@@ -78,36 +61,33 @@ module _ (b n k : ℕ) (bb : b ≢ none) (nk : n < k) (k2 : 2 ≤ k) where
     still m = within (λ i e on. m i (sym (kept m i e) ∙ on))
 
     ones : (f : ℕ) → Within R s → ((i : ℕ) → i < f → i ≢ spot k x s → bitAt (s .bits) i ≡ 1) → (i : ℕ) → i < f → bitAt (nmru k x s .bits) i ≡ 1
-    ones f m h i l = elim (ℕ-discrete i (spot k x s)) [ yes e ↦ rw e (own x s v) | no e ↦ kept m i e ∙ h i l e ]
+    ones f m h i l = elim (ℕ-discrete i (spot k x s)) [ yes e ↦ rw e (own k x s v) | no e ↦ kept m i e ∙ h i l e ]
 
     lines-b : cnt b (nmru k x s .lines) + one b (getD (s .lines) (spot k x s) none) ≡ cnt b (s .lines)
-    lines-b = omega (arith, sum-set (one b) (s .lines) (spot k x s) x none (at-line x s v), one-no b x u)
+    lines-b = omega (arith, swapped k x s v b, one-no b x u)
 
-    -- x takes b's line only where its bit is 0
-    taken : (i : ℕ) → getD (s .lines) i none ≡ b → i ≡ spot k x s → (bitAt (s .bits) i ≡ 0) × ((j : ℕ) → j < i → bitAt (s .bits) j ≡ 1)
-    taken i a e =
-        elim (goes k x s v) [
-          | hit c p ↦ absurd (u (sym p ∙ ap (λ (j : ℕ). getD (s .lines) j none) (sym e) ∙ a))
-          | new c z o ↦ (ap (bitAt (s .bits)) e ∙ z, λ j l. o j (omega arith))
-        ]
+    -- R has no empty line's number, so x is a block and fills the line it goes to
+    full : cnt none (s .lines) ≡ 0 → cnt none (nmru k x s .lines) ≡ 0
+    full = stays-full k x s v (λ e. omega (arith, ap (λ (y : ℕ). cnt y R) e))
 
     passed : (f : ℕ) → Held R f s → Held R f (nmru k x s)
-    passed f (lost z m g) = lost (omega (arith, lines-b)) (still m) (ones f m (λ i l e. g i l))
+    passed f (lost z o m g) = lost (omega (arith, lines-b)) (full o) (still m) (ones f m (λ i l e. g i l))
     passed f (here i a g h (inl on)) =
         elim (ℕ-discrete i (spot k x s)) [
-          | yes e ↦ absurd (omega (arith, taken i a e .0))
+          | yes e ↦ absurd (omega (arith, taken k x s v b i bb u a e .1))
           | no e ↦
-              here i (others x s v i e ∙ a) g h
-              (elim (rest x s v) [ same j l d z k ↦ inl (k i e ∙ on) | flipped o off ↦ inr (flip off) ])
+              here i (others k x s v i e ∙ a) g h
+              (elim (rest k x s v) [ same j l d z k ↦ inl (k i e ∙ on) | flipped o off ↦ inr (flip off) ])
         ]
     passed f (here i a g h (inr m)) =
         elim (ℕ-discrete i (spot k x s)) [
           | yes e ↦
               lost
               (omega (arith, lines-b, v .apart b bb, one-yes b (getD (s .lines) (spot k x s) none) (ap (λ (j : ℕ). getD (s .lines) j none) (sym e) ∙ a)))
+              (full (taken k x s v b i bb u a e .0))
               (still m)
-              (ones f m (λ j l d. taken i a e .1 j (omega arith)))
-          | no e ↦ here i (others x s v i e ∙ a) g h (inr (still m))
+              (ones f m (λ j l d. taken k x s v b i bb u a e .2 j (omega arith)))
+          | no e ↦ here i (others k x s v i e ∙ a) g h (inr (still m))
         ]
 
   record Kept (c : ℕ) (R : List ℕ) (s : SetState) : Type 0 where
@@ -124,33 +104,32 @@ module _ (b n k : ℕ) (bb : b ≢ none) (nk : n < k) (k2 : 2 ≤ k) where
   held-wider : (R R' : List ℕ) (f : ℕ) (s : SetState) → ((y : ℕ) → 1 ≤ cnt y R → 1 ≤ cnt y R') → Held R f s → Held R' f s
   held-wider R R' f s w (here i a g h (inl o)) = here i a g h (inl o)
   held-wider R R' f s w (here i a g h (inr m)) = here i a g h (inr (λ j p. w _ (m j p)))
-  held-wider R R' f s w (lost z m g) = lost z (λ j p. w _ (m j p)) g
+  held-wider R R' f s w (lost z o m g) = lost z o (λ j p. w _ (m j p)) g
 
-  -- b comes back above the f lines
-  above : (f : ℕ) (s : SetState) → LegalWays k s → cnt b (s .lines) ≡ 0 → ((j : ℕ) → j < f → bitAt (s .bits) j ≡ 1) → f ≤ spot k b s
-  above f s v z g =
+  -- b comes back above the f lines: none is empty, so it goes by the bits
+  above : (f : ℕ) (s : SetState) → LegalWays k s → cnt b (s .lines) ≡ 0 → cnt none (s .lines) ≡ 0 → ((j : ℕ) → j < f → bitAt (s .bits) j ≡ 1) → f ≤ spot k b s
+  above f s v z o g =
       elim (decLe f (spot k b s)) [
         | yes h ↦ h
-        | no h ↦ elim (goes k b s v) [ hit c p ↦ absurd (omega arith) | new c y o ↦ absurd (omega (arith, g (spot k b s) (omega arith))) ]
+        | no h ↦
+            elim (goes k b s v) [
+              | hit c p ↦ absurd (omega arith)
+              | fill c i p ↦ absurd (omega arith)
+              | new c i y d ↦ absurd (omega (arith, g (spot k b s) (omega arith)))
+            ]
       ]
-
-  -- b's line is where b stands
-  there : (i : ℕ) (s : SetState) → LegalWays k s → getD (s .lines) i none ≡ b → (1 ≤ cnt b (s .lines)) × (i ≡ spot k b s)
-  there i s v a =
-      let c : 1 ≤ cnt b (s .lines) = rw a at (line-holds (s .lines) i none (λ r. bb (sym a ∙ r))) in
-      elim (goes k b s v) [ hit d p ↦ (c, alone (s .lines) b i (spot k b s) (v .apart) bb a p) | new d y o ↦ absurd (omega arith) ]
 
   repeat : (m : ℕ) (R : List ℕ) (s : SetState) → LegalWays k s → Kept m R s → (m′ : ℕ) × (1 * miss b (s .lines) + m′ ≤ 0 + m) × Kept m′ [] (nmru k b s)
   repeat m R s v q =
       elim (q .held) [
         | here i a g h o ↦
-            let t = there i s v a in
+            let t = there k b s v bb i a in
             (m, omega (arith, t .0), fresh (q .f) m s v (omega (arith, t .1)) h (q .cf))
-        | lost z w g ↦
+        | lost z o w g ↦
             let p = pigeon (q .f) (s .lines) R (v .apart) (q .real) (λ j l. w j (g j l)) in (
               m - 1,
               omega (arith, q .cf, q .few),
-              fresh (suc (q .f)) (m - 1) s v (omega (arith, above (q .f) s v z g)) (omega (arith, q .few)) (omega (arith, q .cf, q .few)),
+              fresh (suc (q .f)) (m - 1) s v (omega (arith, above (q .f) s v z o g)) (omega (arith, q .few)) (omega (arith, q .cf, q .few)),
             )
       ]
 

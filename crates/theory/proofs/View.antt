@@ -9,12 +9,12 @@ use lib.ListN.{length, take, drop, set, take-append-drop}
 use lib.Seq.{take-at, take-set-lt, drop-set-lt}
 use Rattle.paper.specs.declared.SetState.{SetState}
 use Rattle.paper.specs.Lists.{bit}
-use Rattle.paper.specs.Machines.{lineOf, hits, lruStep, fifoStep, nmruStep, nmruLine, victim, marked, step, offered}
+use Rattle.paper.specs.Machines.{none, lineOf, hits, lruStep, fifoStep, nmruStep, lineOr, missLine, nmruLine, victim, marked, step, offered}
 use Rattle.paper.specs.Runs.{LegalSet}
 use Rattle.paper.proofs.Says.{Says, holds, fails, says-true}
 use Rattle.paper.proofs.States.{Legal, Offered, few-legal, legal-few, says-offered}
 use Rattle.theory.proofs.Count.{cnt}
-use Rattle.theory.proofs.Ideal.{miss, lru, fifo, nmru, spot, LegalLines, LegalWays}
+use Rattle.theory.proofs.Ideal.{miss, lru, fifo, nmru, at, spot, LegalLines, LegalWays}
 use Rattle.theory.proofs.Ways.{spot-low}
 use Rattle.theory.proofs.Legal.{is-legal, front, joined}
 use Rattle.theory.proofs.Cut.{says-in, same-miss, lru-lines, fifo-lines}
@@ -85,13 +85,17 @@ module _ (k : ℕ) (o : Offered 2 k) where
           few = legal-few 2 k (s .bits) (omega arith) (is-legal 2 k (o .most) s v .bits);
         }
 
-    same-spot : (x : ℕ) → nmruLine k s x ≡ spot k x (ways s)
-    unfolding nmruLine spot
-    same-spot x = go (hits k (s .lines) x) (says-in k x (s .lines) (o .least) (omega (arith, o .most, v .eight)))
+    same-at : (x j : ℕ) → lineOr k (s .lines) x j ≡ at x (take k (s .lines)) j
+    unfolding lineOr at
+    same-at x j = go (hits k (s .lines) x) (says-in k x (s .lines) (o .least) (omega (arith, o .most, v .eight)))
       where
-        go : (t : Bool) → Says (1 ≤ cnt x (take k (s .lines))) t → cond t (lineOf (take k (s .lines)) x) (victim k (s .bits)) ≡ spot k x (ways s)
+        go : (t : Bool) → Says (1 ≤ cnt x (take k (s .lines))) t → cond t (lineOf (take k (s .lines)) x) j ≡ at x (take k (s .lines)) j
         go true (holds i) = rw (ne-eqb (cnt x (take k (s .lines))) 0 (omega arith))
         go false (fails n) = rw (eq-eqb (cnt x (take k (s .lines))) 0 (omega arith))
+
+    same-spot : (x : ℕ) → nmruLine k s x ≡ spot k x (ways s)
+    unfolding nmruLine missLine spot
+    same-spot x = same-at x _ ∙ ap (at x (take k (s .lines))) (same-at none (victim k (s .bits)))
 
     after : (x : ℕ) → nmruStep k s x .state ≡ record { lines = nmru k x (ways s) .lines ++ drop k (s .lines); bits = nmru k x (ways s) .bits }
     unfolding nmruStep

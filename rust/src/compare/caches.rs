@@ -2,7 +2,7 @@
 
 use super::{Comparison, Settings};
 use crate::generate::{damage::Spot, palette, sets, states, traces};
-use crate::machine::{address::LINE_SIZES, Policy, Shape, NONE};
+use crate::machine::{address::LINE_SIZES, Policy, SetState, Shape, NONE};
 use crate::pipe::{room, Pipe, Request};
 use crate::random::Random;
 
@@ -18,6 +18,7 @@ pub fn run(pipe: &Pipe, settings: &Settings) -> Result<(), String> {
         damaged_runs(&mut random, &mut comparison, (policy, ways))?;
         steps(&mut random, &mut comparison, (policy, ways), settings.steps)?;
         sweep(&mut random, &mut comparison, (policy, ways))?;
+        holes(&mut comparison, (policy, ways))?;
     }
     longest_run(&mut random, &mut comparison)?;
     addresses(&mut random, &mut comparison)?;
@@ -140,6 +141,21 @@ fn sweep(random: &mut Random, comparison: &mut Comparison, (policy, ways): (u8, 
         for block in fetched {
             comparison.add(Request::Step { policy, ways, state: state.clone(), block })?;
         }
+    }
+    Ok(())
+}
+
+/// NMRU: every pattern of bits with every pattern of empty lines, and a block that misses.
+fn holes(comparison: &mut Comparison, (policy, ways): (u8, u8)) -> Result<(), String> {
+    let shape = Shape::read(policy, ways).expect("one of the shapes there are");
+    if shape.policy != Policy::Nmru {
+        return Ok(());
+    }
+    let patterns = 1usize << ways;
+    for (bits, pattern) in (0..patterns - 1).flat_map(|bits| (0..patterns).map(move |pattern| (bits, pattern))) {
+        let empty = |line: usize| line >= shape.ways || pattern >> line & 1 == 1;
+        let lines = std::array::from_fn(|line| if empty(line) { NONE } else { 100 + line as u16 });
+        comparison.add(Request::Step { policy, ways, state: SetState { lines, bits: bits as u8 }, block: 99 })?;
     }
     Ok(())
 }

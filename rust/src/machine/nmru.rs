@@ -31,16 +31,18 @@ impl Nmru {
 }
 
 impl CacheSet for Nmru {
-    /// "A miss takes the lowest line whose bit is 0, even where another line is empty."
+    /// The board "puts a missed block in the lowest empty line, whatever its bit says, and looks at bits only when no line
+    /// is empty".
     fn fetch(&mut self, block: u16) -> Outcome {
         if let Some(found) = self.lines.iter().position(|line| line.block == Some(block)) {
             self.mark(found);
             return Outcome::Hit;
         }
-        let victim = self.lines.iter().position(|line| !line.recent);
-        let victim = victim.expect("a legal state has a line whose bit is 0");
-        self.lines[victim].block = Some(block);
-        self.mark(victim);
+        let empty = self.lines.iter().position(|line| line.block.is_none());
+        let taken = empty.or_else(|| self.lines.iter().position(|line| !line.recent));
+        let taken = taken.expect("a legal state has a line whose bit is 0");
+        self.lines[taken].block = Some(block);
+        self.mark(taken);
         Outcome::Miss
     }
 

@@ -48,7 +48,10 @@ fn nmru_thrice() -> Break {
         blocks(&[2]),
         blocks(&[2, 3]),
     ];
-    chain((2, 3), &[B, 1, 2, B, 1, B, 2, 3, B], 3, &rows, SetState { bits: 2, ..SetState::EMPTY })
+    // No line is empty: b is lost only where the bits decide.
+    let mut start = SetState { bits: 2, ..SetState::EMPTY };
+    start.lines[..3].copy_from_slice(&[7, 8, 9]);
+    chain((2, 3), &[B, 1, 2, B, 1, B, 2, 3, B], 3, &rows, start)
 }
 
 /// The inner loop is entered once for each time around the outer one, and each time b has been lost.

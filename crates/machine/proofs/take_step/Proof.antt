@@ -1,11 +1,15 @@
 -- `machine::take_step` meets its contract.
 use native.Mathlib.Omega.{arith}
 use borrow.Author.Needs.{needs}
-use mathlib.Core.Path.{sym, _∙_, refl, ap}
+use Prim.Native.Nat.{ℕ, _+_, _^_, _<_}
+use mathlib.Core.Path.{_≡_, sym, _∙_, refl, ap, subst}
 use borrow.Author.Tests.{eq-eqb, ne-eqb}
+use Rattle.paper.specs.declared.Line.{Line}
+use Rattle.paper.specs.declared.SetState.{SetState}
 use Rattle.paper.specs.declared.Shift.{Shift}
-use Rattle.paper.specs.Machines.{step}
-use Rattle.paper.specs.Shifts.{shiftAt}
+use Rattle.paper.specs.Machines.{step, nmruStep}
+use Rattle.paper.specs.Ready.{Ready}
+use Rattle.paper.specs.Shifts.{shiftAt, lineFor}
 use Rattle.paper.proofs.Says.{says-true}
 use Rattle.paper.proofs.States.{says-offered}
 use Rattle.paper.proofs.MoveLaws.{legal-ready, nmru-bits}
@@ -43,21 +47,47 @@ returns-2 c = c .fifo .ensures ∙ sym (rw (step, ne-eqb _ _ (c .before .before 
 
 line-requires : tie.Need-line-requires
 line-requires c κs =
-    let s = c .before .before .before in
+    let s = c .before .before in
     let o = says-true (says-offered _ _) (s .pre .0) in
     (legal-ready _ _ _ (s .pre .1 .0) o, (s .pre .1 .1, nmru-bits _ _ _ (s .pre .1 .0) (omega (arith, o .known))))
 
-nmru-requires : tie.Need-nmru-requires
-nmru-requires c κs =
-    let d = c .before in
-    let s = d .before .before .before .before in
+-- what the step of eight ways asks, for as many ways as there are
+abbrev Asked : SetState → ℕ → Line → ℕ → Type 0
+Asked s b line k = Ready k (s .lines) × ((s .bits + 1 < 2 ^ k) × (line ≡ lineFor k s b))
+
+step-of-eight-requires : tie.Need-step-of-eight-requires
+step-of-eight-requires c κs =
+    let l = c .before in
+    let s = l .before .before .before in
     let o = says-true (says-offered _ _) (s .pre .0) in
-    (legal-ready _ _ _ (s .pre .1 .0) o, (nmru-bits _ _ _ (s .pre .1 .0) (omega (arith, o .known)), (d .line .ensures, d .before .next-bits .ensures)))
+    let e : s .args .k ≡ 8 = omega (arith, c .if3 .taken) in
+    subst
+    (Asked (s .args .state) (s .args .block .0) (l .line .result))
+    e
+    (legal-ready _ _ _ (s .pre .1 .0) o, (nmru-bits _ _ _ (s .pre .1 .0) (omega (arith, o .known)), l .line .ensures))
 
 returns-3 : tie.Need-returns-3
 unfolding step
 returns-3 c =
-    let d = c .before .before .before .before in
+    let d = c .before .before .before in
+    let a = d .before .before .args in
+    let e : 8 ≡ a .k = omega (arith, c .before .if3 .taken) in
+    c .step-of-eight .ensures
+    ∙ ap (λ (k : ℕ). nmruStep k (a .state) (a .block .0)) e
+    ∙ sym (rw (step, ne-eqb _ _ (d .before .if1 .left), ne-eqb _ _ (d .if2 .left)))
+
+nmru-requires : tie.Need-nmru-requires
+nmru-requires c κs =
+    let l = c .before .before .before in
+    let s = l .before .before .before in
+    let o = says-true (says-offered _ _) (s .pre .0) in
+    (legal-ready _ _ _ (s .pre .1 .0) o, (nmru-bits _ _ _ (s .pre .1 .0) (omega (arith, o .known)), (l .line .ensures, c .before .next-bits .ensures)))
+
+returns-4 : tie.Need-returns-4
+unfolding step
+returns-4 c =
+    let l = c .before .before .before .before in
+    let d = l .before in
     c .nmru .ensures ∙ sym (rw (step, ne-eqb _ _ (d .before .if1 .left), ne-eqb _ _ (d .if2 .left)))
 
 pub take-step-spec : {M : Type 1} → statement M
@@ -71,7 +101,9 @@ take-step-spec =
     kept-from-requires
     fifo-requires
     returns-2
-    (λ c κs. search needs)
     line-requires
+    step-of-eight-requires
+    returns-3
+    (λ c κs. search needs)
     nmru-requires
-    returns-3)
+    returns-4)

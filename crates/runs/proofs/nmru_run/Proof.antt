@@ -8,7 +8,7 @@ use borrow.Author.Needs.{needs}
 use Rattle.paper.specs.Machines.{step}
 use Rattle.paper.specs.Policies.{nmruPolicy}
 use Rattle.runs.proofs.Going.{Access, sets-ready, access-is, going-end, no-none}
-use Rattle.runs.proofs.Apart.{Apart, Turned, apart-start, stays, turns, apart-ready, apart-bits, apart-more}
+use Rattle.runs.proofs.Apart.{Apart, Turned, apart-start, stays, turns, apart-ready, apart-bits, apart-by-bits, apart-more}
 use Rattle.runs.proofs.nmru_run.Statement.{statement}
 use Rattle.runs.proofs.nmru_run.Tie as tie
 
@@ -56,11 +56,11 @@ turned c =
     let h = home (c .before) in
     ⊎-elim (λ w. turns p a h (w .0 .taken) (w .2) (w .3) (w .4)) (λ w. stays p a h (w .0 .left) (w .1) (w .2) (w .3)) (c .if1 .came)
 
-line-requires : tie.Need-line-requires Inv-loop μ-loop
-line-requires c κs =
+line-by-bits-requires : tie.Need-line-by-bits-requires Inv-loop μ-loop
+line-by-bits-requires c κs =
     let p = start (begun c) .pre in
     let u = turned c in
-    (apart-ready p u, (no-none p (u .access .within), apart-bits p u refl))
+    (apart-ready p u, (no-none p (u .access .within), (apart-bits p u refl, apart-by-bits p u refl)))
 
 -- where the search for the line began
 abbrev looked : tie.Joined2 Inv-loop μ-loop → tie.Joined1 Inv-loop μ-loop
@@ -71,7 +71,7 @@ nmru-requires c κs =
     let d = looked (c .before) in
     let p = start (begun d) .pre in
     let u = turned d in
-    (apart-ready p u, (apart-bits p u refl, (c .before .before .before .line .ensures, begun d .before .before .next-bits .ensures)))
+    (apart-ready p u, (apart-bits p u refl, (c .before .before .before .line-by-bits .ensures, begun d .before .before .next-bits .ensures)))
 
 -- as many guesses as before
 as-many : (c : tie.Joined2 Inv-loop μ-loop) → length (c .if2 .guesses) ≡ length (begun (looked c) .loop .guesses)
@@ -79,7 +79,7 @@ as-many c =
     let o = begun (looked c) in
     let b = getD (start o .args .blocks .now) (o .loop .i) 0 in
     ⊎-elim
-    (λ w. ap length (w .2) ∙ length-set (o .loop .guesses) (b % 1024) ((c .before .before .line .result .bit % 256 + 127) % 128))
+    (λ w. ap length (w .2) ∙ length-set (o .loop .guesses) (b % 1024) ((c .before .before .line-by-bits .result .bit % 256 + 127) % 128))
     (λ w. ap length (w .1))
     (c .if2 .came)
 
@@ -109,7 +109,7 @@ nmru-run-spec =
     home-in-requires
     (λ c. search needs) (λ c. search needs) (λ c. search needs) (λ c. search needs) (λ c. search needs) (λ c. search needs)
     (λ c. search needs)
-    line-requires
+    line-by-bits-requires
     (λ c. search needs) (λ c. search needs) (λ c. search needs)
     nmru-requires
     (λ c κs. search needs) (λ c. search needs) (λ c. search needs) (λ c. search needs) (λ c. search needs) (λ c. search needs)
