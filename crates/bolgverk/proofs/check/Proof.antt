@@ -1,3 +1,4 @@
+-- A list that is too short is refused first; else the layout's refusal, or the ruling on what was read, is the verdict.
 use borrow.Author.Needs.{needs}
 use mathlib.Core.Path.{sym, _∙_}
 use Rattle.layout.proofs.Laws.{read-laid}

@@ -1,3 +1,4 @@
+-- A node that does not fetch b is never at fault; of one that does, its row's number tells.
 use borrow.Author.Needs.{needs}
 use mathlib.Core.Path.{refl}
 use Rattle.paper.specs.Facts.{badManyAt}

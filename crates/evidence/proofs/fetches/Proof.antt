@@ -1,3 +1,4 @@
+-- Node first + j is the scope's node j, and b is the head's block.
 use Rattle.paper.specs.Cases.{fetches}
 use Rattle.paper.specs.Files.{caseOf}
 use borrow.Author.Needs.{needs}

@@ -1,3 +1,4 @@
+-- The loop stops at a node that fetches b; where it ends, none did (`Passed`).
 use Prim.Native.Nat.{_-_}
 use borrow.Author.Needs.{needs}
 use Rattle.paper.specs.Cases.{fetches}

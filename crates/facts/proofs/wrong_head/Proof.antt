@@ -1,3 +1,4 @@
+-- The test is the definition, in its order.
 use mathlib.Core.Path.{refl}
 use borrow.Author.Needs.{needs}
 use Rattle.paper.specs.Facts.{wrongHead}

@@ -1,3 +1,4 @@
+-- The test is the definition, in its order.
 use mathlib.Core.Path.{refl}
 use Rattle.paper.specs.Facts.{wrongOrder}
 use Rattle.facts.proofs.wrong_order.Statement.{statement}

@@ -1,3 +1,4 @@
+-- The least node whose count is too large, or none, decides rule 10; where none is, all counts stand in the table.
 use borrow.Author.Needs.{needs}
 use Rattle.paper.specs.Files.{caseOf}
 use Rattle.paper.specs.Verdicts.{countRules}

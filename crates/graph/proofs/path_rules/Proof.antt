@@ -1,3 +1,4 @@
+-- Rule 8's least edge decides, then rule 9's (`passes-at`, `stops-at`).
 use borrow.Author.Needs.{needs}
 use Rattle.paper.specs.Files.{caseOf}
 use Rattle.paper.specs.Verdicts.{pathRules}

@@ -1,3 +1,4 @@
+-- Rule 6's least edge decides, then rule 7's least loop (`passes-at`, `stops-at`).
 use borrow.Author.Needs.{needs}
 use Rattle.paper.specs.Files.{caseOf}
 use Rattle.paper.specs.Verdicts.{shapeRules}

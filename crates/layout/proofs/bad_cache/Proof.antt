@@ -1,3 +1,4 @@
+-- The paper's one test of policy, ways and sets.
 use mathlib.Core.Path.{ap}
 use mathlib.Core.Bool.{not}
 use borrow.Author.Needs.{needs}

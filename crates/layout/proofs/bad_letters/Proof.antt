@@ -1,3 +1,4 @@
+-- The letters are wrong where the first wrong one is found before the fourth.
 use Rattle.paper.specs.Files.{badLetters}
 use Rattle.paper.specs.Lists.{some}
 use borrow.Author.Needs.{needs}

@@ -1,3 +1,4 @@
+-- The test is the definition, with the ceilings by their names.
 use borrow.Author.Needs.{needs}
 use Rattle.paper.specs.Files.{badNumbers}
 use Rattle.layout.proofs.bad_numbers.Statement.{statement}

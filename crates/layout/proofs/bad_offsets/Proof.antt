@@ -1,3 +1,4 @@
+-- Each offset beside where the section begins; the test is the definition.
 use Rattle.paper.specs.Files.{badOffsets}
 use borrow.Author.Needs.{needs}
 use Rattle.layout.proofs.bad_offsets.Statement.{statement}

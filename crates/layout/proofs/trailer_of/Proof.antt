@@ -1,3 +1,4 @@
+-- Field by field, each where Records puts it.
 use Rattle.paper.specs.Files.{trailerOf}
 use borrow.Author.Needs.{needs}
 use Rattle.layout.proofs.trailer_of.Statement.{statement}

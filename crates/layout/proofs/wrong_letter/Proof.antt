@@ -1,3 +1,4 @@
+-- The loop stops at the first wrong letter; before it all were right (`Passed`).
 use Prim.Native.Nat.{_-_}
 use mathlib.Core.Path.{_≡_, refl}
 use mathlib.Core.Bool.{true, false}

@@ -1,4 +1,4 @@
--- `loops::count` meets its contract: a walk of its MIR by hand, of a reader with a `while`. In each turn the lent slice is looked into, record j is copied out of it, the slice is shut, and `step` is called with the copy.
+-- Walked by hand, since a slice of records is not covered: each turn is the covered `step`, and what is left counts on from it (`count-more`).
 -- All that the proof knows of `step` is that it meets its contract.
 --
 use mathlib.Core.Path.{_≡_, refl, sym, _∙_, ap}

@@ -1,4 +1,4 @@
--- `loops::count_in` meets its contract: a walk of its MIR by hand, of a lender. The array is copied to a local, its first n records are lent for a lifetime that is made for the call of `count`, and come back after it.
+-- Walked by hand: the front of the array is lent, and comes home as it was (`lends-front`).
 -- All that the proof knows of `count` is that it meets its contract.
 --
 use mathlib.Core.Path.{_≡_, refl, sym, _∙_, ap}

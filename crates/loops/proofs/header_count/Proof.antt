@@ -1,3 +1,4 @@
+-- The loops are handed on as records, and counted.
 use mathlib.Core.Path.{_∙_, refl}
 use native.Mathlib.Numerals.{add-one}
 use borrow.Author.Needs.{needs}

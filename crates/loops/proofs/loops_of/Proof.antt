@@ -1,3 +1,4 @@
+-- What is read so far (`Read`): each record is the loop that the file has there.
 use Prim.Native.Nat.{_-_}
 use native.Mathlib.Omega.{arith}
 use mathlib.Core.Path.{refl}

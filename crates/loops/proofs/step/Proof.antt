@@ -1,3 +1,4 @@
+-- A product that would pass the ceiling stays at it (`shown-large`); else it is the product.
 use Prim.Native.Nat.{ℕ, _*_, _≤_}
 use native.Mathlib.Omega.{arith}
 use native.Mathlib.Nat.{mul-le-mul, mul-one}

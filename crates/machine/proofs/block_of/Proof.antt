@@ -1,4 +1,4 @@
--- `machine::block_of` meets its contract.
+-- Line size first, then the quotient: below 65,535 it fits 16 bits.
 use Prim.Native.Nat.{ℕ, zero, suc, _<_}
 use native.Mathlib.Omega.{arith}
 use mathlib.Core.Path.{_≡_, sym, _∙_}

@@ -1,4 +1,4 @@
--- `machine::is_line_size` meets its contract.
+-- The test is the definition, in its order.
 use mathlib.Core.Path.{sym}
 use mathlib.Core.Logic.{⊎-elim, inl, inr}
 use borrow.Author.Tests.{ne-eqb}

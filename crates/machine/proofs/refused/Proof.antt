@@ -1,4 +1,4 @@
--- `machine::refused` meets its contract.
+-- The state goes back as it came, with the refusal.
 use borrow.Author.Needs.{needs}
 use Rattle.machine.proofs.refused.Statement.{statement}
 use Rattle.machine.proofs.refused.Tie as tie

@@ -1,4 +1,4 @@
--- `machine::set_of` meets its contract.
+-- Sets first, then the block; the remainder is below the number of sets.
 use mathlib.Core.Path.{sym, _∙_}
 use borrow.Author.Tests.{not-false, eq-eqb, ne-eqb}
 use Rattle.paper.specs.Operations.{setAnswer}

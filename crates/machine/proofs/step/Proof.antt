@@ -1,4 +1,4 @@
--- `machine::step` meets its contract.
+-- 3, then 22, then 21, as the definition has them (StepLaws); what is left is a legal state, which is stepped.
 use mathlib.Core.Path.{sym, _∙_}
 use borrow.Author.Tests.{not-true, not-false}
 use Rattle.paper.proofs.Says.{says-true}

@@ -1,4 +1,4 @@
--- `machine::take_step` meets its contract.
+-- One branch a policy; a legal state has what its step asks for (`legal-ready`, `nmru-bits`).
 use native.Mathlib.Omega.{arith}
 use borrow.Author.Needs.{needs}
 use Prim.Native.Nat.{ℕ, _+_, _^_, _<_}

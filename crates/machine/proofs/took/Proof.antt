@@ -1,4 +1,4 @@
--- `machine::took` meets its contract.
+-- A hit and a miss are told apart, and the state goes back.
 use Rattle.machine.proofs.took.Statement.{statement}
 use Rattle.machine.proofs.took.Tie as tie
 

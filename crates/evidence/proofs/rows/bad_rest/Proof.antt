@@ -1,3 +1,4 @@
+-- Slots before n are not free by right, so a look from n on is a look at all seven.
 use Prim.Native.Nat.{_-_, _≤_}
 use borrow.Author.Needs.{needs}
 use borrow.Author.Tests.{eq-eqb, ne-eqb}

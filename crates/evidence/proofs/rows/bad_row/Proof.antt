@@ -1,3 +1,4 @@
+-- One branch for each thing that a row's number can be, with the part of the test that is left (OneRow).
 use mathlib.Core.Path.{_∙_}
 use native.Mathlib.Omega.{arith}
 use borrow.Author.Needs.{needs}

@@ -1,3 +1,4 @@
+-- Both rows rise, so what has been passed over in s can stand no more in what is left of r (`Merged`).
 use Prim.Native.Nat.{_-_}
 use mathlib.Core.Logic.{⊎-elim}
 use native.Mathlib.Omega.{arith}

@@ -1,3 +1,4 @@
+-- Edges rise by from: the half that is left has the place where they reach v.
 use Prim.Native.Nat.{_-_}
 use mathlib.Core.Path.{refl}
 use native.Mathlib.Omega.{arith}

@@ -1,3 +1,4 @@
+-- The loop stops where x stands; before it x did not (`Passed`).
 use Prim.Native.Nat.{_-_}
 use mathlib.Core.Path.{refl, sym, _∙_}
 use borrow.Author.Needs.{needs}

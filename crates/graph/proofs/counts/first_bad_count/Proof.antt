@@ -1,3 +1,4 @@
+-- A count that is too large is marked 0, so the least 0 of the table is the least node at fault.
 use borrow.Author.Needs.{needs}
 use Rattle.graph.proofs.CountMarks.{least-count, all-counted}
 use Rattle.graph.proofs.counts.first_bad_count.Statement.{statement}

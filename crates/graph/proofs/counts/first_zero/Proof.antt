@@ -1,3 +1,4 @@
+-- The loop stops at the least 0; before it there was none (`Passed`).
 use Prim.Native.Nat.{_-_}
 use mathlib.Core.Path.{refl, sym}
 use mathlib.Core.Bool.{true, false}

@@ -1,3 +1,4 @@
+-- A forward edge is judged by one mark, any other by the other; the tests are the definitions.
 use borrow.Author.Tests.{eq-eqb, ne-eqb}
 use mathlib.Core.Path.{refl}
 use Rattle.graph.specs.Marks.{breaks}

@@ -1,3 +1,4 @@
+-- The marks of the rule are made first, then the least edge that they do not allow is looked for.
 use borrow.Author.Needs.{needs}
 use Rattle.graph.proofs.edges.edge_rule.Statement.{statement}
 use Rattle.graph.proofs.edges.edge_rule.Tie as tie

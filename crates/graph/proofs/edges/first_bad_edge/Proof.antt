@@ -1,3 +1,4 @@
+-- The edge before is carried along (`IsBefore`); the loop stops at the least edge at fault (`Passed`).
 use Prim.Native.Nat.{_-_}
 use mathlib.Core.Path.{_∙_}
 use borrow.Author.Needs.{needs}

@@ -1,3 +1,4 @@
+-- The loop stops at the least edge that its mark does not allow (`Passed`, `edge-at`).
 use Prim.Native.Nat.{_-_}
 use native.Mathlib.Omega.{arith}
 use mathlib.Core.Path.{_≡_, refl, _∙_}

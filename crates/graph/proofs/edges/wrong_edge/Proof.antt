@@ -1,3 +1,4 @@
+-- The test is the definition, in its order.
 use mathlib.Core.Path.{refl}
 use Rattle.paper.specs.Graphs.{risesFrom, wrongEdge}
 use Rattle.graph.proofs.edges.wrong_edge.Statement.{statement}

@@ -1,3 +1,4 @@
+-- What is filled so far, and that the rest is as it was (`Filled`).
 use Prim.Native.Nat.{_-_, _≤_}
 use native.Mathlib.Omega.{arith}
 use borrow.Author.Needs.{needs}

@@ -1,3 +1,4 @@
+-- One branch a rule: what a loop writes at its nodes.
 use borrow.Author.Needs.{needs}
 use borrow.Author.Tests.{eq-eqb, ne-eqb}
 use mathlib.Core.Path.{refl}

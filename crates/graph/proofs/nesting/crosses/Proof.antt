@@ -1,3 +1,4 @@
+-- The test is the definition.
 use mathlib.Core.Path.{refl}
 use Rattle.paper.specs.Graphs.{crosses}
 use Rattle.graph.proofs.nesting.crosses.Statement.{statement}

@@ -1,3 +1,4 @@
+-- The loop before is carried along (`IsBefore`); it stops at the least loop at fault (`Passed`).
 use Prim.Native.Nat.{_-_}
 use mathlib.Core.Path.{_∙_, ap}
 use borrow.Author.Needs.{needs}

@@ -1,3 +1,4 @@
+-- The tests on one loop, and whether it crosses an earlier one, in the definition's order.
 use borrow.Author.Needs.{needs}
 use Rattle.paper.specs.Lists.{some}
 use Rattle.paper.specs.Graphs.{wrongLoop}

@@ -1,3 +1,4 @@
+-- Two bytes, the low one first, as the definition reads them.
 use borrow.Author.Needs.{needs}
 use Rattle.paper.specs.Files.{u16At}
 use Rattle.layout.proofs.bytes.u16_at.Statement.{statement}

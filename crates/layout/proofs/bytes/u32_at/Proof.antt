@@ -1,3 +1,4 @@
+-- Two 16-bit numbers, the low one first, as the definition reads them.
 use borrow.Author.Needs.{needs}
 use Rattle.paper.specs.Files.{u32At}
 use Rattle.layout.proofs.bytes.u32_at.Statement.{statement}

@@ -1,3 +1,4 @@
+-- A laid-out file has the edge's bytes, and they stand where the definition reads them.
 use Rattle.paper.specs.Files.{fromAt}
 use borrow.Author.Needs.{needs}
 use Rattle.layout.proofs.sections.from_at.Statement.{statement}

@@ -1,3 +1,4 @@
+-- A laid-out file has the loop's bytes, and they stand where the definition reads them.
 use Rattle.paper.specs.Files.{loopAt}
 use borrow.Author.Needs.{needs}
 use Rattle.layout.proofs.sections.loop_at.Statement.{statement}

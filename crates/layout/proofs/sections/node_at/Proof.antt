@@ -1,3 +1,4 @@
+-- A laid-out file has the node's bytes, and they stand where the definition reads them.
 use Rattle.paper.specs.Files.{nodeAt}
 use borrow.Author.Needs.{needs}
 use Rattle.layout.proofs.sections.node_at.Statement.{statement}

@@ -1,3 +1,4 @@
+-- 65,535 is the whole graph; any other number is that loop.
 use borrow.Author.Needs.{needs}
 use mathlib.Core.Path.{refl}
 use borrow.Author.Tests.{eq-eqb, ne-eqb}

@@ -1,4 +1,4 @@
--- `machine::legality::is_distinct` meets its contract: what is left of the lines is tested from line i on.
+-- The lines looked at stand nowhere after themselves (`distinct-on`); one that does ends the look.
 use Prim.Native.Nat.{_-_, _≤_, _<_}
 use native.Mathlib.Omega.{arith}
 use native.Mathlib.Numerals.{add-one}

@@ -1,4 +1,4 @@
--- `machine::legality::is_empty_from` meets its contract: what is left of the lines is tested from line i on.
+-- The lines looked at are empty (`empty-on`); one that is not ends the look.
 use Prim.Native.Nat.{_-_, _≤_}
 use native.Mathlib.Omega.{arith}
 use native.Mathlib.Numerals.{add-one}

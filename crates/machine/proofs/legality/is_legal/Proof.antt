@@ -1,4 +1,4 @@
--- `machine::legality::is_legal` meets its contract.
+-- The three tests of a legal state, in the definition's order.
 use Rattle.paper.specs.Machines.{legal}
 use borrow.Author.Needs.{needs}
 use Rattle.machine.proofs.legality.is_legal.Statement.{statement}

@@ -1,4 +1,4 @@
--- `machine::legality::stands_from` meets its contract: what is left of the lines is searched from line i on.
+-- The lines looked at do not hold the block (`stands-on`); one that does ends the look.
 use Prim.Native.Nat.{_-_, _≤_}
 use native.Mathlib.Omega.{arith}
 use native.Mathlib.Numerals.{add-one}

@@ -1,3 +1,4 @@
+-- The remainder is below the number of sets, which is at most 64.
 use native.Mathlib.Nat.{mod-lt}
 use native.Mathlib.Omega.{arith}
 use mathlib.Core.Path.{refl}

@@ -1,4 +1,4 @@
--- `paper::cache::is_in_range` meets its contract.
+-- Policy and ways are offered, and there are so many sets: the definition.
 use Rattle.paper.specs.Machines.{inRange}
 use borrow.Author.Needs.{needs}
 use Rattle.paper.proofs.cache.is_in_range.Statement.{statement}

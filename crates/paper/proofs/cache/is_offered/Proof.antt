@@ -1,4 +1,4 @@
--- `paper::cache::is_offered` meets its contract.
+-- The policy is one of those there are, and has so many ways: the definition.
 use borrow.Author.Needs.{needs}
 use Rattle.paper.specs.Machines.{offered}
 use Rattle.paper.proofs.cache.is_offered.Statement.{statement}

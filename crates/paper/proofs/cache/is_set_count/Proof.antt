@@ -1,4 +1,4 @@
--- `paper::cache::is_set_count` meets its contract.
+-- The test is the definition.
 use mathlib.Core.Path.{refl}
 use Rattle.paper.specs.Machines.{setCount}
 use Rattle.paper.proofs.cache.is_set_count.Statement.{statement}
