@@ -312,7 +312,7 @@ static unsigned check_fact(struct check *c, size_t *at, const struct fact *befor
 
 static uint64_t fact_bound(const struct check *c, const struct fact *f)
 {
-    if (c->policy == LRU || f->limit == 1)
+    if (c->policy == LRU || f->limit == 1 || (c->policy == NMRU && f->limit == 2))
         return f->entries;
     if (c->policy == FIFO) {
         unsigned g = (c->ways + f->limit - 2) / (f->limit - 1);

@@ -26,7 +26,7 @@ bound-low : (p k l E N a : ℕ) → E + N ≤ a → boundOf p k l E N ≤ a
 unfolding boundOf
 bound-low p k l E N a h =
     let z : E ≤ a = omega arith in
-    each (λ P. P .bound k l E N ≤ a) z (cond-low (ltb l 2) z (omega (arith, div-le-self (N - E) (g k l)))) (cond-low (ltb l 2) z (omega arith)) p
+    each (λ P. P .bound k l E N ≤ a) z (cond-low (ltb l 2) z (omega (arith, div-le-self (N - E) (g k l)))) (cond-low (ltb l 3) z (omega arith)) p
 
 module _ (f : List ℕ) (trailer : Trailer) (laid : Laid f trailer) (sound : Sound (caseOf f trailer)) where
   -- "block b lives in set b mod S"

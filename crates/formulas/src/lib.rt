@@ -43,14 +43,14 @@ fn fifo_bound(k: u64, l: u64, e: u64, n: u64) -> u64
     e + less(n, e) / ratio(k, l)
 }
 
-// "NMRU, l = 1: E"; "NMRU, l >= 2: the lesser of N and l times E"
+// "NMRU, l = 1: E"; "the bound for l = 2 is E, and the factor l starts at 3"
 fn nmru_bound(k: u64, l: u64, e: u64, n: u64) -> u64
     requires { ⌜ l ≤ k ⌝ }
     requires { ⌜ k ≤ 8 ⌝ }
     requires { ⌜ e ≤ Ceilings.mostCount ⌝ }
     ensures { λ r. ⌜ r ≡ Bounds.nmruBound k l e n ⌝ }
 {
-    if l < 2 {
+    if l < 3 {
         return e;
     }
     lesser(n, l * e)

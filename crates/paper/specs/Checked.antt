@@ -80,7 +80,7 @@ abbrev pub allHold : List Checked → Bool
 allHold [] = true
 allHold (c ∷ cs) = holdsAt c && allHold cs
 
--- 1 to 6. In 2, an N that is not given is that of E; in 6, as LRU and as NMRU the paper gives the total.
+-- 1 to 6. In 2, an N that is not given is that of E; in 6, as LRU and as NMRU the paper gives the total: "The NMRU total in case 6 becomes 2." (02, item 3)
 abbrev pub checkedNumbers : List Checked
 checkedNumbers =
     IsG 2 2 2 ∷ IsG 4 2 4 ∷ IsG 4 4 2 ∷ IsG 8 3 4 ∷ IsG 8 6 2
@@ -91,8 +91,8 @@ checkedNumbers =
     ∷ IsStep 2 4 (10 ∷ 20 ∷ 12 ∷ 13 ∷ []) 11 12 true (10 ∷ 20 ∷ 12 ∷ 13 ∷ []) 4
     ∷ IsStep 1 2 (11 ∷ 10 ∷ []) 0 10 true (11 ∷ 10 ∷ []) 0
     ∷ IsStep 0 2 (11 ∷ 10 ∷ []) 0 10 true (10 ∷ 11 ∷ []) 0
-    ∷ AreNumbers 1 4 4 5 5 ∷ AreNumbers 0 2 2 1 1 ∷ AreNumbers 2 4 4 2 2
+    ∷ AreNumbers 1 4 4 5 5 ∷ AreNumbers 0 2 2 1 1 ∷ AreNumbers 2 2 2 1 1
     ∷ IsListing 1 "total 4\nset 0 4\nfact 0 5\nfact 1 5\n"
     ∷ IsListing 0 "total 2\nset 0 2\nfact 0 1\nfact 1 1\n"
-    ∷ IsListing 2 "total 4\nset 0 4\nfact 0 2\nfact 1 2\n"
+    ∷ IsListing 2 "total 2\nset 0 2\nfact 0 1\nfact 1 1\n"
     ∷ []

@@ -23,9 +23,9 @@ lruBound k l E N = E
 abbrev pub fifoBound : ℕ → ℕ → ℕ → ℕ → ℕ
 fifoBound k l E N = cond (ltb l 2) E (E + (N - E) / g k l)
 
--- "NMRU, l = 1: E"; "NMRU, l >= 2: the lesser of N and l times E"
+-- "NMRU, l = 1: E"; "the bound for l = 2 is E, and the factor l starts at 3" (02, item 3): from there on "the lesser of N and l times E"
 abbrev pub nmruBound : ℕ → ℕ → ℕ → ℕ → ℕ
-nmruBound k l E N = cond (ltb l 2) E (min N (l * E))
+nmruBound k l E N = cond (ltb l 3) E (min N (l * E))
 
 -- What differs between policies.
 pub record Parts : Type 0 where

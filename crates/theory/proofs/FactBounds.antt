@@ -18,6 +18,7 @@ use Rattle.theory.proofs.Law.{Law}
 use Rattle.theory.proofs.Lru.{lru-law}
 use Rattle.theory.proofs.Fifo.{fifo-law, fifo-one-law}
 use Rattle.theory.proofs.Nmru.{nmru-law}
+use Rattle.theory.proofs.Pair.{nmru-pair-law}
 use Rattle.theory.proofs.Policies.{Policy, Lru, Fifo, Nmru, number, ideal, fewest, fair}
 use Rattle.theory.proofs.Moves.{Held, Fine, misses, misses-le}
 use Rattle.theory.proofs.FactRuns.{law-bound}
@@ -66,14 +67,12 @@ module _ (k b l E N : ℕ) (real : b ≢ none) (low : 1 ≤ l) (high : l ≤ k) 
             rw (lt-ltb l 2 (omega arith)) (omega (arith, by 1 1 0 (rw z (fifo-one-law k b o))))
       ]
   bounded Nmru o F by most =
-      let r = by 1 (suc (l - 1)) 0 (nmru-law b (l - 1) k real (omega arith) o) in
-      let z : suc (l - 1) ≡ l = omega arith in
-      let y : F ≤ l * E = omega (arith, ap (λ (n : ℕ). n * E) z) in
-      elim (decLe 2 l) [
-        | yes i ↦ rw (le-ltb l 2 i) (omega arith)
-        | no i ↦
-            let x : l ≡ 1 = omega arith in
-            rw (lt-ltb l 2 (omega arith)) (omega (arith, ap (λ (n : ℕ). n * E) x))
+      elim (decLe 3 l) [
+        | yes i ↦
+            let z : suc (l - 1) ≡ l = omega arith in
+            let r = by 1 (suc (l - 1)) 0 (nmru-law b (l - 1) k real (omega arith) o) in
+            rw (le-ltb l 3 i) (omega (arith, ap (λ (n : ℕ). n * E) z))
+        | no i ↦ rw (lt-ltb l 3 (omega arith)) (omega (arith, by 1 1 0 (nmru-pair-law b (l - 1) k real (omega arith))))
       ]
 
 module _ (e : Case) (s : Sound e) (w : List ℕ) (walk : Walk e w) (kept : KeepsLimits e w) (t : Fact) (h : SoundFact e t) where

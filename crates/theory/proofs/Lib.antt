@@ -9,6 +9,7 @@ pub mod Fifo
 pub mod Ratio
 pub mod Ways
 pub mod Nmru
+pub mod Pair
 pub mod Policies
 pub mod Cut
 pub mod Legal

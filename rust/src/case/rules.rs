@@ -31,7 +31,9 @@ pub trait Rules {
         let Stakes { policy, ways, limit, entries, fetches } = stakes;
         match policy {
             Policy::Lru => entries,
-            Policy::Fifo | Policy::Nmru if limit == 1 => entries,
+            Policy::Fifo if limit == 1 => entries,
+            // "the bound for l = 2 is E, and the factor l starts at 3"
+            Policy::Nmru if limit <= 2 => entries,
             Policy::Fifo => entries + (fetches - entries) / self.group(ways, limit),
             Policy::Nmru => fetches.min(limit * entries),
         }

@@ -8,8 +8,8 @@ use crate::machine::SetState;
 const B: u16 = 10;
 
 /// A break for each wrong rule, in the order of `wrong::ALL`.
-pub fn all() -> [Break; 6] {
-    [fifo_again(), nmru_thrice(), fifo_again(), entered_twice(), fifo_again(), own_block()]
+pub fn all() -> [Break; 7] {
+    [fifo_again(), nmru_thrice(), nmru_thrice(), fifo_again(), entered_twice(), fifo_again(), own_block()]
 }
 
 fn blocks(list: &[u16]) -> Row {

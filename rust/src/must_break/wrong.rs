@@ -5,9 +5,10 @@ use crate::case::{Graph, Paper, Rules, Scope, Stakes};
 use crate::machine::Policy;
 use std::collections::BTreeSet;
 
-pub const ALL: [Wrong; 6] = [
+pub const ALL: [Wrong; 7] = [
     Wrong { name: "LRU's fact bound E used for FIFO", rules: &LruForFifo },
     Wrong { name: "(l-1) times E for NMRU with l >= 3", rules: &FactorTooSmall },
+    Wrong { name: "E for NMRU with l >= 3", rules: &FactorForgotten },
     Wrong { name: "g+1 for g", rules: &GroupTooLarge },
     Wrong { name: "entries without the outermost loop", rules: &OutermostForgotten },
     Wrong { name: "k-l+2 in the set's floor", rules: &DivisorTooLarge },
@@ -29,9 +30,19 @@ struct FactorTooSmall;
 
 impl Rules for FactorTooSmall {
     fn fact_bound(&self, stakes: Stakes) -> u128 {
-        let factor = if stakes.limit >= 3 { stakes.limit - 1 } else { stakes.limit };
         match stakes.policy {
-            Policy::Nmru => Paper.fact_bound(Stakes { limit: factor, ..stakes }),
+            Policy::Nmru if stakes.limit >= 3 => stakes.fetches.min((stakes.limit - 1) * stakes.entries),
+            _ => Paper.fact_bound(stakes),
+        }
+    }
+}
+
+struct FactorForgotten;
+
+impl Rules for FactorForgotten {
+    fn fact_bound(&self, stakes: Stakes) -> u128 {
+        match stakes.policy {
+            Policy::Nmru if stakes.limit >= 3 => stakes.entries,
             _ => Paper.fact_bound(stakes),
         }
     }

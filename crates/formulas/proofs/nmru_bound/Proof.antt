@@ -10,7 +10,7 @@ use Rattle.formulas.proofs.nmru_bound.Statement.{statement}
 use Rattle.formulas.proofs.nmru_bound.Tie as tie
 
 returns : tie.Need-returns
-returns c = rw (lt-ltb _ _ (c .if1 .taken)) refl
+returns c = rw (lt-ltb (c .before .args .l) 3 (omega (arith, c .if1 .taken))) refl
 
 mul-lesser : tie.Need-mul-lesser
 mul-lesser c =
@@ -19,7 +19,7 @@ mul-lesser c =
     omega (arith, mul-le-mul h k)
 
 returns-2 : tie.Need-returns-2
-returns-2 c = rw (le-ltb _ _ (c .before .if1 .left), c .lesser .ensures) refl
+returns-2 c = rw (le-ltb (c .before .before .args .l) 3 (omega (arith, c .before .if1 .left)), c .lesser .ensures) refl
 
 pub nmru-bound-spec : {M : Type 1} → statement M
 nmru-bound-spec = tie.close (tie.spec returns mul-lesser (λ c κs. search needs) returns-2)
