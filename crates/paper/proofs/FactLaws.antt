@@ -66,7 +66,7 @@ module _ (e : Case) (t : Fact) where
   least-node p h =
       let w = is-some p (size (scopeOf e t)) h in
       let z = least-is p (size (scopeOf e t)) w in
-      let at : first + least p (size (scopeOf e t)) ≡ first + w .at = ap (λ (n : ℕ). first + n) z in (
+      let at : leastNode e t p ≡ first + w .at = ap (λ (n : ℕ). first + n) z in (
         rw at (within (w .at) (w .below)),
         rw (at, place (w .at)) (w .holds),
         λ v i l. w .none (v - first) (omega arith),
