@@ -11,10 +11,12 @@ use Rattle.paper.specs.declared.TraceAnswer.{TraceAnswer}
 use Rattle.paper.specs.declared.StepAnswer.{StepAnswer}
 use Rattle.paper.specs.declared.BlockAnswer.{BlockAnswer}
 use Rattle.paper.specs.declared.SetAnswer.{SetAnswer}
-use Rattle.paper.specs.Answers.{Told, toldVerdict, toldTrace, toldOutcome, toldBlock, toldSet, valueOr}
-use Rattle.paper.proofs.RefusalLaws.{verdict-numbered, trace-numbered, step-numbered, block-numbered, set-numbered}
-use Rattle.bolgverk.specs.Promises.{StepPromise, BlockPromise, SetPromise, TracePromise, CheckPromise}
-use Rattle.exports.specs.Calls.{CheckCall, TraceCall, StepCall, BlockCall, SetCall}
+use Rattle.paper.specs.declared.WriteAnswer.{WriteAnswer}
+use Rattle.paper.specs.Answers.{Told, toldVerdict, toldTrace, toldOutcome, toldBlock, toldSet, toldWrite, valueOr}
+use Rattle.paper.proofs.RefusalLaws.{verdict-numbered, trace-numbered, step-numbered, block-numbered, set-numbered, write-numbered}
+use Rattle.bolgverk.specs.Promises.{StepPromise, BlockPromise, SetPromise, TracePromise, CheckPromise, WritePromise}
+use Rattle.lists.specs.Listings.{offered}
+use Rattle.exports.specs.Calls.{CheckCall, TraceCall, StepCall, BlockCall, SetCall, WriteCall}
 
 -- an answer that tells what the paper's does
 refused-as : (low : ℕ) (t t′ : Told) → t ≡ t′ → (t′ .values ≡ none → low ≤ t′ .number) → t .values ≡ none → low ≤ t .number
@@ -74,3 +76,10 @@ module _ (block sets before r after : ℕ) where
   set-call v p n s =
       let k = refused-as 1 _ _ (p .told) (set-numbered (record { 0 = block }) sets .refused) in
       record { answer = v; promise = p; number = n; set = s; refused = λ h. number-as 1 r _ n (k h) }
+
+module _ (policy ways sets : ℕ) (nodes edges loops heads rows lent : List ℕ) (before r size at within : ℕ) (after : List ℕ) where
+  pub write-call : (v : WriteAnswer) → WritePromise policy ways sets nodes edges loops heads rows lent v after → r ≡ toldWrite v .number → at ≡ toldWrite v .place →
+      within ≡ toldWrite v .second → size ≡ valueOr before (toldWrite v) → WriteCall policy ways sets nodes edges loops heads rows lent before r size at within after
+  write-call v p n a s l =
+      let k = refused-as 1 _ _ (p .told) (write-numbered (offered policy ways sets nodes edges loops heads rows) (length lent) .refused) in
+      record { answer = v; promise = p; number = n; place = a; second = s; length = l; refused = λ h. number-as 1 r _ n (k h) }

@@ -10,10 +10,11 @@ use Rattle.paper.specs.declared.TraceAnswer.{TraceAnswer}
 use Rattle.paper.specs.declared.StepAnswer.{StepAnswer}
 use Rattle.paper.specs.declared.BlockAnswer.{BlockAnswer}
 use Rattle.paper.specs.declared.SetAnswer.{SetAnswer}
-use Rattle.paper.specs.Answers.{toldVerdict, toldTrace, toldOutcome, toldBlock, toldSet, valueOr}
+use Rattle.paper.specs.declared.WriteAnswer.{WriteAnswer}
+use Rattle.paper.specs.Answers.{toldVerdict, toldTrace, toldOutcome, toldBlock, toldSet, toldWrite, valueOr}
 use Rattle.paper.specs.Files.{readCase}
 use Rattle.paper.specs.Demands.{Holds}
-use Rattle.bolgverk.specs.Promises.{StepPromise, BlockPromise, SetPromise, TracePromise, CheckPromise}
+use Rattle.bolgverk.specs.Promises.{StepPromise, BlockPromise, SetPromise, TracePromise, CheckPromise, WritePromise}
 
 -- The refusal's number, or 0; its places, or 0; the lent numbers afterwards. `holds`: demand 3's bounds, where 0 is returned; its other half is in the promise.
 pub record CheckCall (file lent : List ℕ) (r at within : ℕ) (after : List ℕ) : Type 0 where
@@ -55,3 +56,12 @@ pub record SetCall (block sets before r after : ℕ) : Type 0 where
   pub number : r ≡ toldSet answer .number
   pub set : after ≡ valueOr before (toldSet answer)
   pub refused : toldSet answer .values ≡ none → 1 ≤ r
+
+pub record WriteCall (policy ways sets : ℕ) (nodes edges loops heads rows lent : List ℕ) (before r size at within : ℕ) (after : List ℕ) : Type 0 where
+  pub answer : WriteAnswer
+  pub promise : WritePromise policy ways sets nodes edges loops heads rows lent answer after
+  pub number : r ≡ toldWrite answer .number
+  pub place : at ≡ toldWrite answer .place
+  pub second : within ≡ toldWrite answer .second
+  pub length : size ≡ valueOr before (toldWrite answer)
+  pub refused : toldWrite answer .values ≡ none → 1 ≤ r

@@ -2,7 +2,7 @@
 ghost use mathlib.Core.Path.{_≡_};
 ghost use Prim.Native.Nat.{_+_, _*_, _≤_};
 ghost use lib.ListN.{length};
-ghost use Rattle.print.specs.Put.{Put};
+ghost use Rattle.puts.specs.Put.{Put};
 ghost use Rattle.frames.specs.Little.{little, littles, u64At, u16s, u64s};
 
 // Puts the low bytes of a number, width of them, at a place, and answers the place after them.
