@@ -26,6 +26,16 @@ pub record CheckCall (file lent : List ℕ) (r at within : ℕ) (after : List �
   pub refused : toldVerdict answer .values ≡ none → 1 ≤ r
   pub holds : r ≡ 0 → Holds (readCase file) after
 
+-- The refusal's number, or 0; its places, or 0; how long the file is; the lent bytes afterwards.
+pub record WriteCall (policy ways sets : ℕ) (nodes edges loops heads rows lent : List ℕ) (before r size at within : ℕ) (after : List ℕ) : Type 0 where
+  pub answer : WriteAnswer
+  pub promise : WritePromise policy ways sets nodes edges loops heads rows lent answer after
+  pub number : r ≡ toldWrite answer .number
+  pub length : size ≡ valueOr before (toldWrite answer)
+  pub place : at ≡ toldWrite answer .place
+  pub second : within ≡ toldWrite answer .second
+  pub refused : toldWrite answer .values ≡ none → 1 ≤ r
+
 pub record TraceCall (policy ways sets : ℕ) (blocks lent : List ℕ) (before r counted at : ℕ) (after : List ℕ) : Type 0 where
   pub answer : TraceAnswer
   pub promise : TracePromise policy ways sets blocks lent answer after
@@ -56,12 +66,3 @@ pub record SetCall (block sets before r after : ℕ) : Type 0 where
   pub number : r ≡ toldSet answer .number
   pub set : after ≡ valueOr before (toldSet answer)
   pub refused : toldSet answer .values ≡ none → 1 ≤ r
-
-pub record WriteCall (policy ways sets : ℕ) (nodes edges loops heads rows lent : List ℕ) (before r size at within : ℕ) (after : List ℕ) : Type 0 where
-  pub answer : WriteAnswer
-  pub promise : WritePromise policy ways sets nodes edges loops heads rows lent answer after
-  pub number : r ≡ toldWrite answer .number
-  pub place : at ≡ toldWrite answer .place
-  pub second : within ≡ toldWrite answer .second
-  pub length : size ≡ valueOr before (toldWrite answer)
-  pub refused : toldWrite answer .values ≡ none → 1 ≤ r

@@ -1,4 +1,4 @@
--- `exports::bolgverk_write` hands on what `bolgverk::write` answers: number, places, length and the lent bytes.
+-- `exports::bolgverk_write` hands on what `bolgverk::write` answers: number, places, the file's length and the lent bytes.
 use mathlib.Core.Path.{refl}
 use borrow.Author.Needs.{needs}
 use Rattle.exports.proofs.Calling.{write-call}
@@ -14,7 +14,7 @@ returns c =
 returns-2 : tie.Need-returns-2
 returns-2 c =
     let e = c .before .before .before .before .before .write .ensures in
-    let told = c .before .broken .given .1 in
+    let told = c .before .unfit .given .1 in
     write-call _ _ _ _ _ _ _ _ _ _ _ _ _ _ _ _ e (rw told refl) (rw told refl) (rw told refl) (rw told refl)
 
 pub bolgverk-write-spec : {M : Type 1} → statement M
