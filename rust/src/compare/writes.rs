@@ -5,7 +5,7 @@ use super::{agree, borders, Comparison, Settings};
 use crate::case::{read_content, write, Content, Draft, Paper, NUMBERS};
 use crate::generate::cases::{sound, Plan};
 use crate::generate::damage::{damage, spoil, stir, RULES, WRITTEN};
-use crate::pipe::{Pipe, Request};
+use crate::pipe::{room, Pipe, Request};
 use crate::random::Random;
 use crate::show;
 
@@ -84,15 +84,23 @@ fn stirred(random: &mut Random, draft: &Draft) -> Content {
 /// Has the content written, into too few bytes where asked. What comes out must read back as the same lists, and is checked.
 fn written(random: &mut Random, comparison: &mut Comparison, content: Content, short: bool) -> Result<(), String> {
     let whole = content.draft().map_or(200, |draft| draft.write().len());
-    let room = if short { random.pick(&[0, 1, whole / 2, whole - 1]) } else { whole + random.pick(&[0, 0, 1, 40]) };
-    let mut out = random.noise(room, |number| number as u8);
-    comparison.add(Request::Write { content: content.clone(), out: out.clone() })?;
+    let lent = if short { random.pick(&[0, 1, whole / 2, whole - 1]) } else { whole + random.pick(&[0, 0, 1, 40]) };
+    let mut out = random.noise(lent, |number| number as u8);
+    if fits(&content, lent) {
+        comparison.add(Request::Write { content: content.clone(), out: out.clone() })?;
+    }
     let Ok(length) = write(&content, &mut out) else { return Ok(()) };
     out.truncate(length);
     if read_content(&out) != Ok(content) {
         return Err(format!("what is written does not read back as the same lists\n{}", show::file(&out)));
     }
     comparison.add(Request::Check { file: out, numbers: random.noise(NUMBERS, |number| number) })
+}
+
+/// "A write has at most 1,048,576 numbers in rows and at most 2,150,000 lent bytes": the largest files are written by the
+/// library alone.
+fn fits(content: &Content, lent: usize) -> bool {
+    content.rows.len() <= room::ROWS && lent <= room::OUT
 }
 
 /// The content of a file that passes the layout rules, to be written again: it must come out as the same file. A third of
@@ -103,7 +111,8 @@ pub fn again(file: &[u8]) -> Result<Option<Request>, String> {
     if write(&content, &mut out) != Ok(file.len()) || out != file {
         return Err(format!("the file does not come out again\n{}", show::file(file)));
     }
-    Ok(Some(Request::Write { content, out: vec![165; file.len() + file.len() / 2 % 3] }))
+    let lent = file.len() + file.len() / 2 % 3;
+    Ok(fits(&content, lent).then(|| Request::Write { content, out: vec![165; lent] }))
 }
 
 /// The same for all files that were checked, over the pipe.

@@ -19,6 +19,6 @@ pub mod room {
     pub const EDGES: usize = 16_384;
     pub const LOOPS: usize = 1_024;
     pub const HEADS: usize = 2_048;
-    pub const ROWS: usize = 2_200_000;
-    pub const OUT: usize = 4_300_000;
+    pub const ROWS: usize = 1_048_576;
+    pub const OUT: usize = 2_150_000;
 }

@@ -4,47 +4,6 @@ use borrow.Author.Needs.{needs}
 use Rattle.answers.proofs.writes.read_lists.Statement.{statement}
 use Rattle.answers.proofs.writes.read_lists.Tie as tie
 
--- src/writes.rt:28:9
-read-blocks-at-requires : tie.Need-read-blocks-at-requires
-read-blocks-at-requires c κs = search needs
-
--- src/writes.rt:29:9
-read-blocks-at-requires-2 : tie.Need-read-blocks-at-requires-2
-read-blocks-at-requires-2 c κs = search needs
-
--- src/writes.rt:30:9
-read-longs-at-requires : tie.Need-read-longs-at-requires
-read-longs-at-requires c κs = search needs
-
--- src/writes.rt:31:9
-read-blocks-at-requires-3 : tie.Need-read-blocks-at-requires-3
-read-blocks-at-requires-3 c κs = search needs
-
--- src/writes.rt:32:5
-read-blocks-at-requires-4 : tie.Need-read-blocks-at-requires-4
-read-blocks-at-requires-4 c κs = search needs
-
--- src/writes.rt:14:1
-same-length : tie.Need-same-length
-same-length c = search needs
-
--- src/writes.rt:14:1
-same-length-2 : tie.Need-same-length-2
-same-length-2 c = search needs
-
--- src/writes.rt:14:1
-same-length-3 : tie.Need-same-length-3
-same-length-3 c = search needs
-
--- src/writes.rt:14:1
-same-length-4 : tie.Need-same-length-4
-same-length-4 c = search needs
-
--- src/writes.rt:14:1
-same-length-5 : tie.Need-same-length-5
-same-length-5 c = search needs
-
--- src/writes.rt:14:1
 abbrev start : tie.After-read-blocks-at → tie.Start
 start c = c .before .before .before .before .before .before .before .before
 
@@ -63,14 +22,6 @@ pub read-lists-spec : {M : Type 1} → statement M
 read-lists-spec =
     tie.close
     (tie.spec
-    read-blocks-at-requires
-    read-blocks-at-requires-2
-    read-longs-at-requires
-    read-blocks-at-requires-3
-    read-blocks-at-requires-4
-    same-length
-    same-length-2
-    same-length-3
-    same-length-4
-    same-length-5
+    (λ c κs. search needs) (λ c κs. search needs) (λ c κs. search needs) (λ c κs. search needs) (λ c κs. search needs) (λ c. search needs)
+    (λ c. search needs) (λ c. search needs) (λ c. search needs) (λ c. search needs)
     returns)

@@ -6,39 +6,6 @@ use borrow.Author.Needs.{needs}
 use Rattle.answers.proofs.writes.written.Statement.{statement}
 use Rattle.answers.proofs.writes.written.Tie as tie
 
--- src/writes.rt:51:9
-element-copy-out-write : tie.Need-element-copy-out-write
-element-copy-out-write c = search needs
-
--- src/writes.rt:52:9
-element-copy-out-write-2 : tie.Need-element-copy-out-write-2
-element-copy-out-write-2 c = search needs
-
--- src/writes.rt:53:9
-element-copy-out-write-3 : tie.Need-element-copy-out-write-3
-element-copy-out-write-3 c = search needs
-
--- src/writes.rt:59:9
-sub-write : tie.Need-sub-write
-sub-write c = search needs
-
--- src/writes.rt:59:9
-part-write-start : tie.Need-part-write-start
-part-write-start c = search needs
-
--- src/writes.rt:59:9
-part-write-end : tie.Need-part-write-end
-part-write-end c = search needs
-
--- src/writes.rt:50:5
-write-requires : tie.Need-write-requires
-write-requires c κs = search needs
-
--- src/writes.rt:36:1
-same-length : tie.Need-same-length
-same-length c = search needs
-
--- src/writes.rt:36:1
 abbrev start : tie.After-write → tie.Start
 start c = c .before .before .before .before .before .before .before .before .before .before .before
 
@@ -53,12 +20,6 @@ pub written-spec : {M : Type 1} → statement M
 written-spec =
     tie.close
     (tie.spec
-    element-copy-out-write
-    element-copy-out-write-2
-    element-copy-out-write-3
-    sub-write
-    part-write-start
-    part-write-end
-    write-requires
-    same-length
+    (λ c. search needs) (λ c. search needs) (λ c. search needs) (λ c. search needs) (λ c. search needs) (λ c. search needs)
+    (λ c κs. search needs) (λ c. search needs)
     returns)
