@@ -1,16 +1,23 @@
 -- `answers::writes::framed` puts the head so that it ends where the lent bytes begin, which stay as the writer left them.
+use borrow.Author.Needs.{needs}
 use Rattle.frames.proofs.Answering.{answered-as, answered-before}
 use Rattle.answers.proofs.Asking.{drop-place}
 use Rattle.answers.proofs.AskingWrites.{write-framed}
-use borrow.Author.Needs.{needs}
 use Rattle.answers.proofs.writes.framed.Statement.{statement}
 use Rattle.answers.proofs.writes.framed.Tie as tie
 
 abbrev read : tie.After-written → tie.After-read-lists
-read c = c .before .before .before .before .before .before .before .before .before .before .before .before .before .before .before .before .before
+read c =
+    let handed = c .before .before .before .before .before in
+    let lent = handed .before .before .before .before .before in
+    let back = lent .before .before .before .before .before in
+    back .before .before
 
 abbrev start : tie.After-read-lists → tie.Start
-start c = c .before .before .before .before .before .before .before .before .before .before .before .before .before
+start c =
+    let handed = c .before .before .before .before .before in
+    let known = handed .before .before .before .before .before in
+    known .before .before .before
 
 front-requires : tie.Need-front-requires
 front-requires c κs =

@@ -1,11 +1,13 @@
 -- `answers::writes::read_lists`: each list is read where the one before it ends.
-use Rattle.answers.proofs.AskingWrites.{lists-read}
 use borrow.Author.Needs.{needs}
+use Rattle.answers.proofs.AskingWrites.{lists-read}
 use Rattle.answers.proofs.writes.read_lists.Statement.{statement}
 use Rattle.answers.proofs.writes.read_lists.Tie as tie
 
 abbrev start : tie.After-read-blocks-at → tie.Start
-start c = c .before .before .before .before .before .before .before .before
+start c =
+    let known = c .before .before .before .before in
+    known .before .before .before .before
 
 returns : tie.Need-returns
 returns c =

@@ -1,13 +1,16 @@
 -- `answers::writes::written` asks by the arguments in their order, on the lists and the bytes that are lent.
 use mathlib.Core.Path.{_∙_}
+use borrow.Author.Needs.{needs}
 use Rattle.answers.proofs.Asking.{tail-left}
 use Rattle.answers.proofs.AskingWrites.{write-asked}
-use borrow.Author.Needs.{needs}
 use Rattle.answers.proofs.writes.written.Statement.{statement}
 use Rattle.answers.proofs.writes.written.Tie as tie
 
 abbrev start : tie.After-write → tie.Start
-start c = c .before .before .before .before .before .before .before .before .before .before .before
+start c =
+    let handed = c .before .before .before .before .before in
+    let known = handed .before .before .before .before .before in
+    known .before
 
 returns : tie.Need-returns
 returns c =
