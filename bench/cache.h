@@ -1,4 +1,4 @@
-/* What both plain C versions know of a cache: the policies, the limits and refusal 3. */
+/* What the plain C versions know of a cache: the policies, the limits and refusal 3. */
 #pragma once
 
 enum { LRU, FIFO, NMRU };

@@ -7,7 +7,7 @@
  *   - memory that an operation writes overlaps nothing else that is passed to it, and nothing else touches it during the call.
  *
  * A refusal has a number, a place and a second place, as in the table at the end. A refused call writes no lent memory but *place and
- * *second. Only the check's refusals have a second place that is not 0, so only it hands one over.
+ * *second. Only the refusals of the check and the writer have a second place that is not 0, so only these two hand one over.
  * Policies: 0 LRU, 1 FIFO, 2 NMRU. Ways: 1 to 8 (NMRU 2 to 8). Sets: 1 to 64. Blocks: 0 to 65,534; 65,535 means none.
  */
 #ifndef BOLGVERK_H
@@ -32,6 +32,25 @@ extern "C" {
  * Returns 0 if the file is accepted, else the refusal's number: 20 first, then 1 to 10, then 11 to 18 fact by fact (24 and 25 together
  * with 17, by the least edge), then 19. */
 uint8_t bolgverk_check(const uint8_t *file, size_t file_length, uint64_t *numbers, size_t numbers_length, uint64_t *place, uint64_t *second);
+
+/* Writes a case file from lists. It does not sort: what a layout rule forbids it refuses. What it writes passes those rules and reads back
+ * as the same lists; and the lists of a file that passes them make the same file again.
+ *   policy, ways, sets       the cache
+ *   nodes, nodes_length      the block of each node, 65,535 for none; all lists are only read
+ *   edges, edges_length      two numbers an edge: from, to
+ *   loops, loops_length      three numbers a loop: first node, last node, bound
+ *   heads, heads_length      four numbers a fact: loop number or 65,535 for the whole graph, block, age limit, how many rows it has
+ *   rows, rows_length        eight numbers a row, the number and seven slots with 65,535 in the free ones; the facts' rows one after another
+ *   out, out_length          gets the file, if nothing is refused; bytes past it stay as they are
+ *   length                   gets the file's length, if nothing is refused: 2 bytes a node, 4 an edge, 8 a loop, 6 a fact, 16 a row, and 32
+ *   place                    gets the refusal's place, 0 if nothing is refused; always written
+ *   second                   gets the refusal's second place: for 16 the node, else 0; always written
+ * The lengths count numbers, not records. Returns 0, or the refusal's number: 3, 4 (also where a list is no whole number of records, or the
+ * rows are not as many as the heads name), 6, 7, then fact by fact 12, 13, 15, 16, then 20 where out_length is below the file's length. */
+uint8_t bolgverk_write(uint8_t policy, uint8_t ways, uint8_t sets, const uint16_t *nodes, size_t nodes_length, const uint16_t *edges,
+                       size_t edges_length, const uint32_t *loops, size_t loops_length, const uint16_t *heads, size_t heads_length,
+                       const uint16_t *rows, size_t rows_length, uint8_t *out, size_t out_length, uint64_t *length, uint64_t *place,
+                       uint64_t *second);
 
 /* Runs a trace of block accesses from empty sets.
  *   policy, ways, sets       the cache
@@ -72,7 +91,7 @@ uint8_t bolgverk_set_of(uint16_t block, uint8_t sets, uint8_t *set);
  *    1  the file has fewer than 32 bytes                                                                     0              0
  *    2  the trailer's letters or version are wrong                                                           0              0
  *    3  policy, ways or sets out of range                                                                    0              0
- *    4  a number of nodes, edges, loops or facts out of range                                                0              0
+ *    4  a number of nodes, edges, loops or facts out of range, or a list for the writer that is not whole    0              0
  *    5  an offset is wrong, or the facts would start past the trailer                                        0              0
  *    6  an edge's end is no node, or the edge does not come after the one before it                          edge           0
  *    7  a loop's first node above its last, its last no node, its bound not 1 to 1,000,000, its first node not above that of the loop before it, or it crosses an earlier one loop           0
@@ -83,12 +102,12 @@ uint8_t bolgverk_set_of(uint16_t block, uint8_t sets, uint8_t *set);
  *   12  a fact's loop number, block or age limit out of range                                                fact           0
  *   13  a fact's block is below the previous fact's, or equal and its scope starts at or before the previous scope's last node fact           0
  *   14  no node of a fact's scope fetches its block                                                          fact           0
- *   15  a fact's rows are cut short                                                                          fact           0
+ *   15  a fact's rows are cut short, or the writer is handed more or fewer than its scope has nodes          fact           0
  *   16  a row is not sound                                                                                   fact           node
  *   17  a set is followed by row 9, or by a set that lacks a block                                           fact           edge
  *   18  a node that fetches the fact's block has row 8 ("many")                                              fact           node
  *   19  bytes are left between the last fact and the trailer                                                 0              0
- *   20  the lent list is too short: 321 numbers, or one byte an access                                       0              0
+ *   20  the lent list is too short: 321 numbers, one byte an access, or the file's bytes                     0              0
  *   21  block 65,535 is accessed, or an address's block is above 65,534                                      access, else 0 0
  *   22  the set's state is not legal                                                                         0              0
  *   23  the line size is none of 8, 16, 32, 64, 128                                                          0              0

@@ -3,7 +3,7 @@
 mod options;
 
 use options::{Options, USAGE};
-use second::compare::{bounds, caches, evidence, files, frames, walks};
+use second::compare::{bounds, caches, evidence, files, frames, walks, writes};
 use second::must_break;
 use std::process::ExitCode;
 use std::time::Instant;
@@ -14,7 +14,7 @@ fn main() -> ExitCode {
         Ok(_) => return usage("no part is named"),
         Err(fault) => return usage(&fault),
     };
-    let all = ["caches", "frames", "files", "bounds", "evidence", "walks", "must-break"];
+    let all = ["caches", "frames", "files", "writes", "bounds", "evidence", "walks", "must-break"];
     let named = options.parts.iter().map(String::as_str);
     let parts: Vec<&str> = named.flat_map(|part| if part == "all" { all.to_vec() } else { vec![part] }).collect();
     for part in parts {
@@ -45,6 +45,7 @@ fn run(part: &str, options: &Options) -> Result<(), Failure> {
         "caches" => caches::run(pipe()?, settings),
         "frames" => frames::run(pipe()?, settings),
         "files" => files::run(pipe()?, settings),
+        "writes" => writes::run(pipe()?, settings),
         "bounds" => bounds::run(program()?, settings),
         "evidence" => evidence::run(pipe()?, settings),
         "walks" => walks::run(pipe()?, settings),

@@ -11,7 +11,8 @@ Compares the proved operations, over `pipe`, and the program `bounds` with the s
 parts:
   caches      trace runs, single steps, addresses, set numbers
   frames      frames that cannot be answered
-  files       case files, sound and damaged: verdicts, places and bounds
+  files       case files, sound and damaged: verdicts, places and bounds; their contents written again
+  writes      contents, sound and damaged: the files that are written, and refusals
   bounds      what the program `bounds` prints for case files, sound, damaged and too long
   evidence    evidence exists exactly when it should
   walks       no walk through an accepted file misses more than its bounds say
@@ -29,6 +30,7 @@ options:
   --printed N   case files that `bounds` is started on (2000)
   --graphs N    small graphs whose evidence is tried (600)
   --walked N    small files that are walked through, or searched (10000)
+  --written N   contents that are written (10000)
 ";
 
 pub struct Options {
@@ -47,6 +49,7 @@ pub fn read(arguments: impl Iterator<Item = String>) -> Result<Options, String> 
         printed: 2_000,
         graphs: 600,
         walked: 10_000,
+        written: 10_000,
     };
     let mut options = Options { settings, pipe: None, bounds: None, parts: Vec::new() };
     let mut rest = arguments;
@@ -85,6 +88,7 @@ impl Options {
             "--printed" => self.settings.printed = number,
             "--graphs" => self.settings.graphs = number,
             "--walked" => self.settings.walked = number,
+            "--written" => self.settings.written = number,
             _ => return Err(format!("no option {option}")),
         }
         Ok(())

@@ -1,6 +1,6 @@
 //! The second simulator's answer to any request of `pipe`.
 
-use crate::case::{check, Paper};
+use crate::case::{check, write, Paper};
 use crate::machine::{address, step, trace, Outcome};
 use crate::pipe::{Answer, Body, Request};
 use crate::refusal::Refusal;
@@ -29,6 +29,12 @@ pub fn answer(request: &Request) -> Answer {
             let mut after = numbers.clone();
             let verdict = check(file, &mut after, &Paper);
             outcome(verdict, Body::Check { numbers: numbers.clone() }, |_| Body::Check { numbers: after })
+        }
+        Request::Write { content, out } => {
+            let mut after = out.clone();
+            let written = write(content, &mut after);
+            let refused = Body::Write { length: 0, out: out.clone() };
+            outcome(written, refused, |length| Body::Write { length: length as u64, out: after })
         }
     }
 }

@@ -3,8 +3,8 @@ use Prim.Native.Nat.{ℕ, _+_, _-_, _*_, _≤_}
 use native.Mathlib.Omega.{arith}
 use mathlib.Core.Path.{_≡_, sym, _∙_, ap, subst}
 use mathlib.Core.List.{List, _++_, append-nil}
-use lib.ListN.{length, take, drop, length-drop, drop-of-length-le}
-use lib.Seq.{take-all, drop-drop, drop-at, length-take-le}
+use lib.ListN.{length, take, drop, drop-of-length-le}
+use lib.Seq.{drop-drop, drop-at, length-take-le}
 use borrow.Rule.Slice.PartMut.{putMid}
 use Rattle.paper.specs.declared.StepAnswer.{StepAnswer}
 use Rattle.paper.specs.declared.TraceAnswer.{TraceAnswer}
@@ -15,12 +15,9 @@ use Rattle.frames.specs.declared.Head.{Head}
 use Rattle.frames.specs.Little.{littles, u16s, u64s}
 use Rattle.frames.specs.Places as Places
 use Rattle.frames.specs.Frames.{checkHead, front, checkFrame, stepAsked, traceAsked, checkAsked, numbersAfter}
+use Rattle.frames.proofs.FilledLists.{part-rest}
 use Rattle.bolgverk.specs.Promises.{StepPromise, TracePromise, CheckPromise}
 use Rattle.bolgverk.proofs.Determined.{step-answer, trace-answer, check-answer}
-
--- what stands from n on, as a part of the list
-pub part-rest : (l : List ℕ) (n : ℕ) → take (length l - n) (drop n l) ≡ drop n l
-part-rest l n = take-all (length l - n) (drop n l) (omega (arith, length-drop n l))
 
 pub drop-place : (l : List ℕ) (a b : ℕ) {m : List ℕ} → a ≡ b → drop b l ≡ m → drop a l ≡ m
 drop-place l a b {m} e h = subst (λ (k : ℕ). drop k l ≡ m) (sym e) h

@@ -4,6 +4,7 @@ pub mod checks;
 pub mod sets;
 pub mod steps;
 pub mod traces;
+pub mod writes;
 
 use frames::places;
 ghost use mathlib.Core.Path.{_≡_};
@@ -18,10 +19,22 @@ pub const FILE: usize = 4300000;
 
 pub const NUMBERS: usize = 4096;
 
+// Numbers in a writer's lists. It has as many in rows as a trace has accesses.
+pub const NODES: usize = 4096;
+
+pub const EDGES: usize = 16384;
+
+pub const LOOPS: usize = 1024;
+
+pub const HEADS: usize = 2048;
+
+// The bytes that a writer is lent.
+pub const OUT: usize = 2150000;
+
 // The bytes have room for what stands before the lent memory, then for the lent memory. A check's takes most.
 pub const ROOM: usize = places::LENT_AT + FILE + 8 * NUMBERS;
 
-// How many bytes the arguments of an operation take, the lent memory left out. A step's take most.
+// How many bytes the arguments of an operation take, the lent memory left out. A writer's take most.
 pub fn argument_bytes(operation: u8) -> usize
     ensures { λ r. ⌜ r ≡ Frames.argumentBytes operation ⌝ }
     ensures { λ r. ⌜ r ≤ Places.argumentsRoom ⌝ }
@@ -32,6 +45,7 @@ pub fn argument_bytes(operation: u8) -> usize
         3 => places::SET_SIZE,
         4 => places::TRACE_SIZE,
         5 => places::CHECK_SIZE,
+        6 => places::WRITE_SIZE,
         _ => 0,
     }
 }

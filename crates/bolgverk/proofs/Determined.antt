@@ -12,11 +12,14 @@ use Rattle.paper.specs.declared.BlockAnswer.{BlockAnswer}
 use Rattle.paper.specs.declared.SetAnswer.{SetAnswer}
 use Rattle.paper.specs.declared.TraceAnswer.{TraceAnswer}
 use Rattle.paper.specs.declared.Verdict.{Verdict}
+use Rattle.paper.specs.declared.WriteAnswer.{WriteAnswer}
 use Rattle.paper.specs.Operations.{stepAnswer, blockAnswer, setAnswer}
 use Rattle.paper.specs.Traces.{traceRun}
 use Rattle.paper.specs.Verdicts.{verdict, lentAfter}
-use Rattle.paper.proofs.AnswerLaws.{same-verdict, same-trace, same-outcome, same-block, same-set}
-use Rattle.bolgverk.specs.Promises.{StepPromise, BlockPromise, SetPromise, TracePromise, CheckPromise}
+use Rattle.paper.specs.Writing.{writeVerdict, writeAnswer}
+use Rattle.lists.specs.Listings.{offered}
+use Rattle.paper.proofs.AnswerLaws.{same-verdict, same-trace, same-outcome, same-block, same-set, same-write}
+use Rattle.bolgverk.specs.Promises.{StepPromise, BlockPromise, SetPromise, TracePromise, CheckPromise, WritePromise}
 
 answer-of : (r r′ : StepAnswer) → r .state ≡ r′ .state → r .outcome ≡ r′ .outcome → r ≡ r′
 answer-of r r′ s o =
@@ -60,3 +63,14 @@ module _ (file lent : List ℕ) where
   check-determined r r′ after after′ p q =
       let e : r ≡ r′ = check-answer r after p ∙ sym (check-answer r′ after′ q) in
       (e, p .numbers ∙ ap (lentAfter file lent) e ∙ sym (q .numbers))
+
+module _ (policy ways sets : ℕ) (nodes edges loops heads rows lent : List ℕ) where
+  pub write-answer : (r : WriteAnswer) (after : List ℕ) → WritePromise policy ways sets nodes edges loops heads rows lent r after →
+      let c = offered policy ways sets nodes edges loops heads rows in
+      r ≡ writeAnswer c (writeVerdict c (length lent))
+  write-answer r after p = same-write _ _ (p .told)
+
+  pub write-determined : (r r′ : WriteAnswer) (after after′ : List ℕ) →
+      WritePromise policy ways sets nodes edges loops heads rows lent r after → WritePromise policy ways sets nodes edges loops heads rows lent r′ after′ →
+      (r ≡ r′) × (after ≡ after′)
+  write-determined r r′ after after′ p q = (write-answer r after p ∙ sym (write-answer r′ after′ q), p .bytes ∙ sym (q .bytes))

@@ -12,13 +12,16 @@ use Rattle.paper.specs.declared.BlockAnswer.{BlockAnswer}
 use Rattle.paper.specs.declared.SetAnswer.{SetAnswer}
 use Rattle.paper.specs.declared.TraceAnswer.{TraceAnswer}
 use Rattle.paper.specs.declared.Verdict.{Verdict}
+use Rattle.paper.specs.declared.WriteAnswer.{WriteAnswer}
 use Rattle.paper.specs.declared.Verdict.the-variants.{Accepted}
-use Rattle.paper.specs.Answers.{toldVerdict, toldTrace, toldOutcome, toldBlock, toldSet}
+use Rattle.paper.specs.Answers.{toldVerdict, toldTrace, toldOutcome, toldBlock, toldSet, toldWrite}
 use Rattle.paper.specs.Operations.{stepAnswer, blockAnswer, setAnswer}
 use Rattle.paper.specs.Traces.{traceRun}
 use Rattle.paper.specs.Files.{readCase}
 use Rattle.paper.specs.Verdicts.{verdict, lentAfter}
 use Rattle.paper.specs.Demands.{Holds, EvidenceExact}
+use Rattle.paper.specs.Writing.{writeVerdict, writeAnswer, outAfter, ReadsBack, WritesBack}
+use Rattle.lists.specs.Listings.{offered}
 
 -- A step's answer is a state and an outcome.
 pub record StepPromise (policy ways : ℕ) (given : SetState) (block : Block) (r : StepAnswer) : Type 0 where
@@ -42,3 +45,15 @@ pub record CheckPromise (file lent : List ℕ) (r : Verdict) (after : List ℕ) 
   pub numbers : after ≡ lentAfter file lent r
   pub holds : r ≡ Accepted → Holds (readCase file) after
   pub exact : EvidenceExact file
+
+-- `lent` and `after`: the lent bytes before and after. The answer is that of the verdict on the content; `reads` and `again` are the request's two sentences:
+-- "What it writes passes them and reads back as the same lists; and any file that passes them comes out again byte for byte when its content is written".
+pub record WritePromise (policy ways sets : ℕ) (nodes edges loops heads rows lent : List ℕ) (r : WriteAnswer) (after : List ℕ) : Type 0 where
+  pub told :
+      let c = offered policy ways sets nodes edges loops heads rows in
+      toldWrite r ≡ toldWrite (writeAnswer c (writeVerdict c (length lent)))
+  pub bytes :
+      let c = offered policy ways sets nodes edges loops heads rows in
+      after ≡ outAfter c lent (writeVerdict c (length lent))
+  pub reads : ReadsBack (offered policy ways sets nodes edges loops heads rows) (length lent)
+  pub again : (f : List ℕ) → WritesBack f

@@ -1,5 +1,5 @@
 // The public face of Bolgverk: every public operation, each thin, with its whole promise. Each takes every input.
-ghost use Rattle.bolgverk.specs.Promises.{StepPromise, BlockPromise, SetPromise, TracePromise, CheckPromise};
+ghost use Rattle.bolgverk.specs.Promises.{StepPromise, BlockPromise, SetPromise, TracePromise, CheckPromise, WritePromise};
 use layout::Layout;
 use paper::Address;
 use paper::Block;
@@ -10,6 +10,7 @@ use paper::SetState;
 use paper::StepAnswer;
 use paper::TraceAnswer;
 use paper::Verdict;
+use paper::WriteAnswer;
 
 // "A single step takes a policy, k, any set state and any block (no S; the block's set isn't looked at)"
 pub fn step(policy: u8, ways: u8, state: SetState, block: Block) -> StepAnswer
@@ -51,4 +52,21 @@ pub fn check(file: &[u8], numbers: &mut [u64]) -> Verdict
         Layout::Read(trailer) => ruling::rule_on(file, trailer, numbers),
         Layout::Refused(r) => Verdict::Refused(r),
     }
+}
+
+// "Nodes, edges, loops and facts in, case file out in a lent buffer": two numbers an edge, three a loop, four a head (scope, block, l, how many rows), eight a row.
+pub fn write(
+    policy: u8,
+    ways: u8,
+    sets: u8,
+    nodes: &[u16],
+    edges: &[u16],
+    loops: &[u32],
+    heads: &[u16],
+    rows: &[u16],
+    out: &mut [u8],
+) -> WriteAnswer
+    ensures { λ r. ⌜ WritePromise policy ways sets (now (nodes .entry)) (now (edges .entry)) (now (loops .entry)) (now (heads .entry)) (now (rows .entry)) (now (out .entry)) r (now (out .exit)) ⌝ }
+{
+    writer::write(policy, ways, sets, nodes, edges, loops, heads, rows, out)
 }

@@ -11,10 +11,12 @@ use Rattle.paper.specs.declared.TraceAnswer.{TraceAnswer}
 use Rattle.paper.specs.declared.StepAnswer.{StepAnswer}
 use Rattle.paper.specs.declared.BlockAnswer.{BlockAnswer}
 use Rattle.paper.specs.declared.SetAnswer.{SetAnswer}
-use Rattle.paper.specs.Answers.{Told, toldVerdict, toldTrace, toldOutcome, toldBlock, toldSet, valueOr}
-use Rattle.paper.proofs.RefusalLaws.{verdict-numbered, trace-numbered, step-numbered, block-numbered, set-numbered}
-use Rattle.bolgverk.specs.Promises.{StepPromise, BlockPromise, SetPromise, TracePromise, CheckPromise}
-use Rattle.exports.specs.Calls.{CheckCall, TraceCall, StepCall, BlockCall, SetCall}
+use Rattle.paper.specs.declared.WriteAnswer.{WriteAnswer}
+use Rattle.paper.specs.Answers.{Told, toldVerdict, toldTrace, toldOutcome, toldBlock, toldSet, toldWrite, valueOr}
+use Rattle.paper.specs.Writing.{FileContent}
+use Rattle.paper.proofs.RefusalLaws.{verdict-numbered, trace-numbered, step-numbered, block-numbered, set-numbered, write-numbered}
+use Rattle.bolgverk.specs.Promises.{StepPromise, BlockPromise, SetPromise, TracePromise, CheckPromise, WritePromise}
+use Rattle.exports.specs.Calls.{CheckCall, WriteCall, TraceCall, StepCall, BlockCall, SetCall}
 
 -- an answer that tells what the paper's does
 refused-as : (low : ℕ) (t t′ : Told) → t ≡ t′ → (t′ .values ≡ none → low ≤ t′ .number) → t .values ≡ none → low ≤ t .number
@@ -43,6 +45,14 @@ module _ (file lent : List ℕ) (r at within : ℕ) (after : List ℕ) where
         refused = λ h. number-as 1 r _ n (k h);
         holds = λ z. p .holds (accepted v k (omega arith));
       }
+
+module _ (policy ways sets : ℕ) (nodes edges loops heads rows lent : List ℕ) (before r size at within : ℕ) (after : List ℕ) where
+  pub write-call : (v : WriteAnswer) → WritePromise policy ways sets nodes edges loops heads rows lent v after → r ≡ toldWrite v .number → size ≡ valueOr before (toldWrite v) →
+      at ≡ toldWrite v .place → within ≡ toldWrite v .second → WriteCall policy ways sets nodes edges loops heads rows lent before r size at within after
+  write-call v p n l a s =
+      let c : FileContent = record { policy = policy; ways = ways; sets = sets; nodes = nodes; edges = edges; loops = loops; heads = heads; rows = rows } in
+      let k = refused-as 1 _ _ (p .told) (write-numbered c (length lent) .refused) in
+      record { answer = v; promise = p; number = n; length = l; place = a; second = s; refused = λ h. number-as 1 r _ n (k h) }
 
 module _ (policy ways sets : ℕ) (blocks lent : List ℕ) (before r counted at : ℕ) (after : List ℕ) where
   pub trace-call : (v : TraceAnswer) → TracePromise policy ways sets blocks lent v after → r ≡ toldTrace v .number → at ≡ toldTrace v .place →

@@ -7,9 +7,10 @@ use Rattle.paper.specs.declared.TraceAnswer.{TraceAnswer}
 use Rattle.paper.specs.declared.StepAnswer.{StepAnswer}
 use Rattle.paper.specs.declared.BlockAnswer.{BlockAnswer}
 use Rattle.paper.specs.declared.SetAnswer.{SetAnswer}
-use Rattle.paper.specs.Answers.{toldVerdict, toldTrace, toldOutcome, toldBlock, toldSet, valueOr}
-use Rattle.bolgverk.proofs.Determined.{step-determined, block-determined, set-determined, trace-determined, check-determined}
-use Rattle.exports.specs.Calls.{CheckCall, TraceCall, StepCall, BlockCall, SetCall}
+use Rattle.paper.specs.declared.WriteAnswer.{WriteAnswer}
+use Rattle.paper.specs.Answers.{toldVerdict, toldTrace, toldOutcome, toldBlock, toldSet, toldWrite, valueOr}
+use Rattle.bolgverk.proofs.Determined.{step-determined, block-determined, set-determined, trace-determined, check-determined, write-determined}
+use Rattle.exports.specs.Calls.{CheckCall, WriteCall, TraceCall, StepCall, BlockCall, SetCall}
 
 -- two results that are the same function of answers that are the same
 same : {A B : Type 0} (f : A → B) {v v′ : A} {x x′ : B} → v ≡ v′ → x ≡ f v → x′ ≡ f v′ → x ≡ x′
@@ -22,6 +23,19 @@ module _ (file lent : List ℕ) (r r′ at at′ within within′ : ℕ) (after 
         same (λ (v : Verdict). toldVerdict v .number) (e .0) (p .number) (q .number),
         same (λ (v : Verdict). toldVerdict v .place) (e .0) (p .place) (q .place),
         same (λ (v : Verdict). toldVerdict v .second) (e .0) (p .second) (q .second),
+        e .1,
+      )
+
+module _ (policy ways sets : ℕ) (nodes edges loops heads rows lent : List ℕ) (before r r′ size size′ at at′ within within′ : ℕ) (after after′ : List ℕ) where
+  pub write-call-determined : WriteCall policy ways sets nodes edges loops heads rows lent before r size at within after →
+      WriteCall policy ways sets nodes edges loops heads rows lent before r′ size′ at′ within′ after′ →
+      (r ≡ r′) × (size ≡ size′) × (at ≡ at′) × (within ≡ within′) × (after ≡ after′)
+  write-call-determined p q =
+      let e = write-determined policy ways sets nodes edges loops heads rows lent _ _ _ _ (p .promise) (q .promise) in (
+        same (λ (v : WriteAnswer). toldWrite v .number) (e .0) (p .number) (q .number),
+        same (λ (v : WriteAnswer). valueOr before (toldWrite v)) (e .0) (p .length) (q .length),
+        same (λ (v : WriteAnswer). toldWrite v .place) (e .0) (p .place) (q .place),
+        same (λ (v : WriteAnswer). toldWrite v .second) (e .0) (p .second) (q .second),
         e .1,
       )
 

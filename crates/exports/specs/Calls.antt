@@ -10,10 +10,11 @@ use Rattle.paper.specs.declared.TraceAnswer.{TraceAnswer}
 use Rattle.paper.specs.declared.StepAnswer.{StepAnswer}
 use Rattle.paper.specs.declared.BlockAnswer.{BlockAnswer}
 use Rattle.paper.specs.declared.SetAnswer.{SetAnswer}
-use Rattle.paper.specs.Answers.{toldVerdict, toldTrace, toldOutcome, toldBlock, toldSet, valueOr}
+use Rattle.paper.specs.declared.WriteAnswer.{WriteAnswer}
+use Rattle.paper.specs.Answers.{toldVerdict, toldTrace, toldOutcome, toldBlock, toldSet, toldWrite, valueOr}
 use Rattle.paper.specs.Files.{readCase}
 use Rattle.paper.specs.Demands.{Holds}
-use Rattle.bolgverk.specs.Promises.{StepPromise, BlockPromise, SetPromise, TracePromise, CheckPromise}
+use Rattle.bolgverk.specs.Promises.{StepPromise, BlockPromise, SetPromise, TracePromise, CheckPromise, WritePromise}
 
 -- The refusal's number, or 0; its places, or 0; the lent numbers afterwards. `holds`: demand 3's bounds, where 0 is returned; its other half is in the promise.
 pub record CheckCall (file lent : List ℕ) (r at within : ℕ) (after : List ℕ) : Type 0 where
@@ -24,6 +25,16 @@ pub record CheckCall (file lent : List ℕ) (r at within : ℕ) (after : List �
   pub second : within ≡ toldVerdict answer .second
   pub refused : toldVerdict answer .values ≡ none → 1 ≤ r
   pub holds : r ≡ 0 → Holds (readCase file) after
+
+-- The refusal's number, or 0; its places, or 0; how long the file is; the lent bytes afterwards.
+pub record WriteCall (policy ways sets : ℕ) (nodes edges loops heads rows lent : List ℕ) (before r size at within : ℕ) (after : List ℕ) : Type 0 where
+  pub answer : WriteAnswer
+  pub promise : WritePromise policy ways sets nodes edges loops heads rows lent answer after
+  pub number : r ≡ toldWrite answer .number
+  pub length : size ≡ valueOr before (toldWrite answer)
+  pub place : at ≡ toldWrite answer .place
+  pub second : within ≡ toldWrite answer .second
+  pub refused : toldWrite answer .values ≡ none → 1 ≤ r
 
 pub record TraceCall (policy ways sets : ℕ) (blocks lent : List ℕ) (before r counted at : ℕ) (after : List ℕ) : Type 0 where
   pub answer : TraceAnswer

@@ -1,6 +1,6 @@
 // The public operations under C names. include/bolgverk.h says the same to a C compiler.
 // A slice passes as a pointer and a length, a number to be written as a pointer. No function has a `requires`.
-ghost use Rattle.exports.specs.Calls.{CheckCall, TraceCall, StepCall, BlockCall, SetCall};
+ghost use Rattle.exports.specs.Calls.{CheckCall, WriteCall, TraceCall, StepCall, BlockCall, SetCall};
 use paper::Address;
 use paper::Block;
 use paper::BlockAnswer;
@@ -9,6 +9,7 @@ use paper::SetAnswer;
 use paper::SetState;
 use paper::TraceAnswer;
 use paper::Verdict;
+use paper::WriteAnswer;
 
 // The refusal's number, 0 where the file is accepted; `place` and `second` get the refusal's places, or 0.
 #[no_mangle]
@@ -30,6 +31,39 @@ pub extern "C" fn bolgverk_check(
             *place = broken.place as u64;
             *second = broken.second as u64;
             broken.number
+        }
+    }
+}
+
+// The refusal's number, or 0; `place` and `second` get the refusal's places, or 0; `length` gets the file's, where nothing is refused.
+#[no_mangle]
+pub extern "C" fn bolgverk_write(
+    policy: u8,
+    ways: u8,
+    sets: u8,
+    nodes: &[u16],
+    edges: &[u16],
+    loops: &[u32],
+    heads: &[u16],
+    rows: &[u16],
+    out: &mut [u8],
+    length: &mut u64,
+    place: &mut u64,
+    second: &mut u64,
+) -> u8
+    ensures { λ r. ⌜ WriteCall policy ways sets (now (nodes .entry)) (now (edges .entry)) (now (loops .entry)) (now (heads .entry)) (now (rows .entry)) (now (out .entry)) (now (length .entry)) r (now (length .exit)) (now (place .exit)) (now (second .exit)) (now (out .exit)) ⌝ }
+{
+    match bolgverk::write(policy, ways, sets, nodes, edges, loops, heads, rows, out) {
+        WriteAnswer::Written(size) => {
+            *length = size as u64;
+            *place = 0;
+            *second = 0;
+            0
+        }
+        WriteAnswer::Refused(unfit) => {
+            *place = unfit.place as u64;
+            *second = unfit.second as u64;
+            unfit.number
         }
     }
 }

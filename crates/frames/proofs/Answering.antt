@@ -5,8 +5,8 @@ use mathlib.Core.Path.{_≡_, _∙_, ap, subst}
 use mathlib.Core.List.{List, [], _++_, append-nil, append-assoc}
 use lib.ListN.{length, take, drop, drop-of-length-le}
 use lib.Seq.{sets-eq, drop-at, length-take-le}
-use Rattle.print.specs.Put.{Put}
-use Rattle.print.proofs.Putting.{put-length}
+use Rattle.puts.specs.Put.{Put}
+use Rattle.puts.proofs.Putting.{put-length}
 use Rattle.frames.specs.declared.Head.{Head}
 use Rattle.frames.specs.Frames.{Answered, front}
 

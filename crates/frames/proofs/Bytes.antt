@@ -6,8 +6,8 @@ use mathlib.Core.Path.{_≡_, refl}
 use mathlib.Core.List.{List, [], _∷_, _++_}
 use lib.ListN.{length, getD, drop, length-append, drop-of-length-le}
 use lib.Seq.{drop-cons}
-use Rattle.print.specs.Put.{Put}
-use Rattle.print.proofs.Putting.{Left, left-start, left-more, left-end}
+use Rattle.puts.specs.Put.{Put}
+use Rattle.puts.proofs.Putting.{Left, left-start, left-more, left-end}
 use Rattle.frames.specs.Little.{little, littles}
 
 pub little-length : (width x : ℕ) → length (little width x) ≡ width

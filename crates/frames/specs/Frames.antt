@@ -1,5 +1,5 @@
 -- docs/PIPE.md as definitions: what a request takes, what it asks for, and the bytes of the answer.
-use Prim.Native.Nat.{ℕ, _*_, _≤_}
+use Prim.Native.Nat.{ℕ, _+_, _*_, _≤_}
 use mathlib.Core.Bool.{cond}
 use mathlib.Core.Path.{_≡_}
 use mathlib.Core.List.{List, _++_}
@@ -15,6 +15,8 @@ use Rattle.paper.specs.declared.SetAnswer.{SetAnswer}
 use Rattle.paper.specs.declared.SetAnswer.the-variants as SetAnswers
 use Rattle.paper.specs.declared.TraceAnswer.{TraceAnswer}
 use Rattle.paper.specs.declared.TraceAnswer.the-variants as TraceAnswers
+use Rattle.paper.specs.declared.WriteAnswer.{WriteAnswer}
+use Rattle.paper.specs.declared.WriteAnswer.the-variants as WriteAnswers
 use Rattle.paper.specs.declared.Verdict.{Verdict}
 use Rattle.paper.specs.declared.Verdict.the-variants as Verdicts
 use Rattle.paper.specs.Answers.{refuse}
@@ -23,8 +25,9 @@ use Rattle.paper.specs.Records.{sizeOf}
 use Rattle.paper.specs.Operations.{stepAnswer, blockAnswer, setAnswer}
 use Rattle.paper.specs.Traces.{Run, traceRun}
 use Rattle.paper.specs.Verdicts.{verdict, lentAfter}
+use Rattle.paper.specs.Writing.{FileContent, writeVerdict, writeAnswer, outAfter}
 use Rattle.frames.specs.declared.Head.{Head}
-use Rattle.frames.specs.Little.{little, littles, u16s, u64s}
+use Rattle.frames.specs.Little.{little, littles, u16s, u32s, u64s}
 use Rattle.frames.specs.Places as Places
 
 -- "the operation's byte, the refusal's number u8 (0: not refused), the refusal's place u64 and its second place u64 (both 0 where not refused), and then": every answer's head
@@ -66,6 +69,11 @@ abbrev pub checkHead : Verdict → Head
 checkHead Verdicts.Accepted = found 0
 checkHead (Verdicts.Refused r) = refusedWith r 0
 
+-- "the file's length u64 (refused: 0)"
+abbrev pub writeHead : WriteAnswer → Head
+writeHead (WriteAnswers.Written n) = found n
+writeHead (WriteAnswers.Refused r) = refusedWith r 0
+
 abbrev pub stepOf : Outcome → List ℕ → ℕ → StepAnswer
 stepOf outcome lines bits = record { state = record { lines = lines; bits = bits }; outcome = outcome }
 
@@ -86,6 +94,18 @@ traceFrame run = front 4 Places.missesWidth (traceHead (run .answer)) ++ run .ma
 -- "the m numbers of lent memory afterwards, u64 each": a check's head has no value
 abbrev pub checkFrame : Verdict → List ℕ → List ℕ
 checkFrame v numbers = front 5 0 (checkHead v) ++ littles 8 numbers
+
+-- What a writer answers and leaves in the bytes that it was lent.
+pub record Wrote : Type 0 where
+  pub answer : WriteAnswer
+  pub after : List ℕ
+
+unfoldable pub wrote : FileContent → List ℕ → Wrote
+wrote c out = record { answer = writeAnswer c (writeVerdict c (length out)); after = outAfter c out (writeVerdict c (length out)) }
+
+-- "…; the m bytes of lent memory afterwards, of which the first are the file"
+abbrev pub writeFrame : Wrote → List ℕ
+writeFrame w = front 6 Places.lengthWidth (writeHead (w .answer)) ++ w .after
 
 -- What is asked for by the bytes of a request: r are those of its arguments, and lent is the lent memory as it is handed in.
 module _ (r : List ℕ) where
@@ -123,13 +143,64 @@ module _ (r : List ℕ) where
     unfoldable pub numbersAfter : List ℕ
     numbersAfter = lentAfter file numbers checkAsked
 
+  -- Where each list of a writer begins in its lent memory, and where the lent bytes do: after all that stands before.
+  abbrev pub edgesFrom : ℕ
+  edgesFrom = 2 * u32At r Places.writeNodes
+
+  abbrev pub loopsFrom : ℕ
+  loopsFrom = edgesFrom + 2 * u32At r Places.writeEdges
+
+  abbrev pub headsFrom : ℕ
+  headsFrom = loopsFrom + 4 * u32At r Places.writeLoops
+
+  abbrev pub rowsFrom : ℕ
+  rowsFrom = headsFrom + 2 * u32At r Places.writeHeads
+
+  abbrev pub bytesFrom : ℕ
+  bytesFrom = rowsFrom + 2 * u32At r Places.writeRows
+
+  -- the lists, whatever they are, with the cache that the arguments name
+  abbrev pub contentWith : List ℕ → List ℕ → List ℕ → List ℕ → List ℕ → FileContent
+  contentWith nodes edges loops heads rows =
+      record {
+        policy = u8At r 0;
+        ways = u8At r Places.writeWays;
+        sets = u8At r Places.writeSets;
+        nodes = nodes;
+        edges = edges;
+        loops = loops;
+        heads = heads;
+        rows = rows;
+      }
+
+  -- "then the nodes u16 each, the edges u16 each, the loops u32 each, the heads u16 each, the rows u16 each, then m bytes"
+  unfoldable pub contentAsked : List ℕ → FileContent
+  contentAsked lent =
+      contentWith
+      (u16s lent (u32At r Places.writeNodes))
+      (u16s (drop edgesFrom lent) (u32At r Places.writeEdges))
+      (u32s (drop loopsFrom lent) (u32At r Places.writeLoops))
+      (u16s (drop headsFrom lent) (u32At r Places.writeHeads))
+      (u16s (drop rowsFrom lent) (u32At r Places.writeRows))
+
+  unfoldable pub writeAsked : List ℕ → Wrote
+  writeAsked lent = wrote (contentAsked lent) (drop bytesFrom lent)
+
+-- The lists of a writer are as long as its arguments say.
+pub record Counted (r blocks pairs bounds firsts slots : List ℕ) : Type 0 where
+  pub nodes : length blocks ≡ u32At r Places.writeNodes
+  pub edges : length pairs ≡ u32At r Places.writeEdges
+  pub loops : length bounds ≡ u32At r Places.writeLoops
+  pub heads : length firsts ≡ u32At r Places.writeHeads
+  pub rows : length slots ≡ u32At r Places.writeRows
+
 -- How many bytes the arguments of an operation take, the lent memory left out.
 unfoldable pub argumentBytes : ℕ → ℕ
 argumentBytes operation =
     cond (eqb operation 1) (sizeOf Places.stepFields)
     (cond (eqb operation 2) (sizeOf Places.blockFields)
     (cond (eqb operation 3) (sizeOf Places.setFields)
-    (cond (eqb operation 4) (sizeOf Places.traceFields) (cond (eqb operation 5) (sizeOf Places.checkFields) 0))))
+    (cond (eqb operation 4) (sizeOf Places.traceFields) (cond (eqb operation 5) (sizeOf Places.checkFields) (cond (eqb operation 6) (sizeOf Places.writeFields) 0)))))
 
 -- "the byte 0, then one byte that says why, then the number of frames answered before it, u64"
 unfoldable pub lastFrame : ℕ → ℕ → List ℕ

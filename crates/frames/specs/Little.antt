@@ -17,9 +17,12 @@ littles width (x ∷ xs) = little width x ++ littles width xs
 abbrev pub u64At : List ℕ → ℕ → ℕ
 u64At l p = u32At l p + 4294967296 * u32At l (p + 4)
 
--- The first n numbers that stand in the bytes, each u16, and each u64.
+-- The first n numbers that stand in the bytes, each u16, each u32, and each u64.
 abbrev pub u16s : List ℕ → ℕ → List ℕ
 u16s l n = table (λ i. u16At l (2 * i)) n
+
+abbrev pub u32s : List ℕ → ℕ → List ℕ
+u32s l n = table (λ i. u32At l (4 * i)) n
 
 abbrev pub u64s : List ℕ → ℕ → List ℕ
 u64s l n = table (λ i. u64At l (8 * i)) n

@@ -14,7 +14,7 @@ linesWidth = 8 * bits16
 abbrev pub headSize : ℕ
 headSize = sizeOf (bits8 ∷ bits8 ∷ bits64 ∷ bits64 ∷ [])
 
--- what follows it first: "0 for a hit, 1 for a miss, 2 for a refusal, u8", "the block u16", "the set u8", "the misses u64"
+-- what follows it first: "0 for a hit, 1 for a miss, 2 for a refusal, u8", "the block u16", "the set u8", "the misses u64", "the file's length u64"
 abbrev pub outcomeWidth : ℕ
 outcomeWidth = bits8
 
@@ -26,6 +26,9 @@ setWidth = bits8
 
 abbrev pub missesWidth : ℕ
 missesWidth = bits64
+
+abbrev pub lengthWidth : ℕ
+lengthWidth = bits64
 
 -- A step's answer is the longest without lent memory. The lent memory stands after room for it.
 abbrev pub lentAt : ℕ
@@ -88,6 +91,34 @@ checkFields = bits32 ∷ bits32 ∷ []
 abbrev pub checkNumbers : ℕ
 checkNumbers = offset checkFields 1
 
--- A step's arguments take most.
+-- "policy u8, ways u8, sets u8, six counts u32 each: how many numbers there are in nodes, edges, loops, heads and rows, and how many bytes m are lent"
+abbrev pub writeFields : List ℕ
+writeFields = bits8 ∷ bits8 ∷ bits8 ∷ bits32 ∷ bits32 ∷ bits32 ∷ bits32 ∷ bits32 ∷ bits32 ∷ []
+
+abbrev pub writeWays : ℕ
+writeWays = offset writeFields 1
+
+abbrev pub writeSets : ℕ
+writeSets = offset writeFields 2
+
+abbrev pub writeNodes : ℕ
+writeNodes = offset writeFields 3
+
+abbrev pub writeEdges : ℕ
+writeEdges = offset writeFields 4
+
+abbrev pub writeLoops : ℕ
+writeLoops = offset writeFields 5
+
+abbrev pub writeHeads : ℕ
+writeHeads = offset writeFields 6
+
+abbrev pub writeRows : ℕ
+writeRows = offset writeFields 7
+
+abbrev pub writeLent : ℕ
+writeLent = offset writeFields 8
+
+-- A writer's arguments take most.
 abbrev pub argumentsRoom : ℕ
-argumentsRoom = sizeOf stepFields
+argumentsRoom = sizeOf writeFields

@@ -10,6 +10,19 @@ accesses = 1048576
 abbrev pub numbers : ℕ
 numbers = 4096
 
+-- "A write has at most 4,096 numbers in nodes, 16,384 in edges, 1,024 in loops, 2,048 in heads, 1,048,576 in rows": in rows as many as a trace has accesses
+abbrev pub nodes : ℕ
+nodes = 4096
+
+abbrev pub edges : ℕ
+edges = 16384
+
+abbrev pub loops : ℕ
+loops = 1024
+
+abbrev pub heads : ℕ
+heads = 2048
+
 -- "a file has at most 4,300,000 bytes": a check's lent memory takes most.
 abbrev pub bytes : ℕ
 bytes = lentAt + 4300000 + 8 * numbers

@@ -6,6 +6,7 @@ use paper::Refusal;
 use paper::SetAnswer;
 use paper::TraceAnswer;
 use paper::Verdict;
+use paper::WriteAnswer;
 ghost use mathlib.Core.Path.{_≡_};
 ghost use Rattle.frames.specs.Frames as Frames;
 
@@ -70,5 +71,14 @@ pub fn check(verdict: Verdict) -> Head
     match verdict {
         Verdict::Accepted => found(0),
         Verdict::Refused(r) => refused(r, 0),
+    }
+}
+
+pub fn write(answer: WriteAnswer) -> Head
+    ensures { λ r. ⌜ r ≡ Frames.writeHead answer ⌝ }
+{
+    match answer {
+        WriteAnswer::Written(length) => found(length as u64),
+        WriteAnswer::Refused(r) => refused(r, 0),
     }
 }

@@ -7,7 +7,7 @@ use paper::Refusal;
 ghost use mathlib.Core.Path.{_≡_};
 ghost use Prim.Native.Nat.{_+_, _≤_};
 ghost use lib.ListN.{length};
-ghost use Rattle.print.specs.Put.{Put};
+ghost use Rattle.puts.specs.Put.{Put};
 ghost use Rattle.frames.specs.Frames as Frames;
 ghost use Rattle.frames.specs.Places.{headSize, lastSize};
 

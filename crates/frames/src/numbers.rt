@@ -1,9 +1,9 @@
 // Little-endian numbers, read from bytes and put into bytes.
 ghost use mathlib.Core.Path.{_≡_};
 ghost use Prim.Native.Nat.{_+_, _*_, _≤_};
-ghost use lib.ListN.{length};
-ghost use Rattle.print.specs.Put.{Put};
-ghost use Rattle.frames.specs.Little.{little, littles, u64At, u16s, u64s};
+ghost use lib.ListN.{length, drop};
+ghost use Rattle.puts.specs.Put.{Put};
+ghost use Rattle.frames.specs.Little.{little, littles, u64At, u16s, u32s, u64s};
 
 // Puts the low bytes of a number, width of them, at a place, and answers the place after them.
 pub fn put(out: &mut [u8], at: usize, width: usize, x: u64) -> usize
@@ -50,6 +50,39 @@ pub fn read_blocks(bytes: &[u8], blocks: &mut [u16])
         blocks[i] = layout::u16_at(bytes, 2 * i);
         i += 1;
     }
+}
+
+// Fills a list of numbers of four bytes from the bytes.
+fn read_longs(bytes: &[u8], longs: &mut [u32])
+    requires { ⌜ 4 * length (now longs) ≤ length (now bytes) ⌝ }
+    ensures { λ _. ⌜ now (longs .exit) ≡ u32s (now (bytes .entry)) (length (now (longs .entry))) ⌝ }
+{
+    let mut i = 0;
+    while i < longs.len() {
+        longs[i] = layout::u32_at(bytes, 4 * i);
+        i += 1;
+    }
+}
+
+// The same from a place on, and the place after them.
+pub fn read_blocks_at(bytes: &[u8], at: usize, blocks: &mut [u16]) -> usize
+    requires { ⌜ at + 2 * length (now blocks) ≤ length (now bytes) ⌝ }
+    ensures { λ _. ⌜ now (blocks .exit) ≡ u16s (drop at (now (bytes .entry))) (length (now (blocks .entry))) ⌝ }
+    ensures { λ r. ⌜ r ≡ at + 2 * length (now (blocks .entry)) ⌝ }
+{
+    let to = at + 2 * blocks.len();
+    read_blocks(&bytes[at..], blocks);
+    to
+}
+
+pub fn read_longs_at(bytes: &[u8], at: usize, longs: &mut [u32]) -> usize
+    requires { ⌜ at + 4 * length (now longs) ≤ length (now bytes) ⌝ }
+    ensures { λ _. ⌜ now (longs .exit) ≡ u32s (drop at (now (bytes .entry))) (length (now (longs .entry))) ⌝ }
+    ensures { λ r. ⌜ r ≡ at + 4 * length (now (longs .entry)) ⌝ }
+{
+    let to = at + 4 * longs.len();
+    read_longs(&bytes[at..], longs);
+    to
 }
 
 // Fills a list of numbers from the bytes.

@@ -3,7 +3,7 @@
 // An answer's head: the operation, the refusal's number, its two places.
 pub const HEAD_SIZE: usize = 18;
 
-// What follows the head first: a step's outcome, a block, a set, the misses of a trace.
+// What follows the head first: a step's outcome, a block, a set, the misses of a trace, a file's length.
 pub const OUTCOME_WIDTH: usize = 1;
 
 pub const BLOCK_WIDTH: usize = 2;
@@ -11,6 +11,8 @@ pub const BLOCK_WIDTH: usize = 2;
 pub const SET_WIDTH: usize = 1;
 
 pub const MISSES_WIDTH: usize = 8;
+
+pub const LENGTH_WIDTH: usize = 8;
 
 // A step's answer, with eight lines and bits, is the longest without lent memory. The lent memory stands after room for it.
 pub const LENT_AT: usize = HEAD_SIZE + OUTCOME_WIDTH + 16 + 1;
@@ -27,7 +29,7 @@ pub const CHECK_AT: usize = LENT_AT - HEAD_SIZE;
 // "the byte 0, then one byte that says why, then the number of frames answered before it, u64"
 pub const LAST_SIZE: usize = 10;
 
-// The arguments of each operation. A step's take most.
+// The arguments of each operation. A writer's take most.
 pub const STEP_SIZE: usize = 21;
 
 pub const BLOCK_SIZE: usize = 8;
@@ -38,7 +40,9 @@ pub const TRACE_SIZE: usize = 11;
 
 pub const CHECK_SIZE: usize = 8;
 
-pub const ARGUMENTS_ROOM: usize = STEP_SIZE;
+pub const WRITE_SIZE: usize = 27;
+
+pub const ARGUMENTS_ROOM: usize = WRITE_SIZE;
 
 // Arguments that do not stand first.
 pub const STEP_WAYS: usize = 1;
@@ -62,3 +66,19 @@ pub const TRACE_ACCESSES: usize = 3;
 pub const TRACE_MARKS: usize = 7;
 
 pub const CHECK_NUMBERS: usize = 4;
+
+pub const WRITE_WAYS: usize = 1;
+
+pub const WRITE_SETS: usize = 2;
+
+pub const WRITE_NODES: usize = 3;
+
+pub const WRITE_EDGES: usize = 7;
+
+pub const WRITE_LOOPS: usize = 11;
+
+pub const WRITE_HEADS: usize = 15;
+
+pub const WRITE_ROWS: usize = 19;
+
+pub const WRITE_LENT: usize = 23;

@@ -12,7 +12,8 @@ ghost use Rattle.graph.specs.Marks as Marks;
 use crate::marks::mark_nodes;
 use paper::Trailer;
 
-fn wrong_edge(nodes: u16, i: u16, a: u16, b: u16, u: u16, v: u16) -> bool
+// Rule 6 for the edge u to v, edge i, after the edge a to b; of a file or of a list.
+pub fn wrong_edge(nodes: u16, i: u16, a: u16, b: u16, u: u16, v: u16) -> bool
     ensures { λ r. ⌜ r ≡ Graphs.wrongEdge nodes i a b u v ⌝ }
 {
     (nodes <= u) | ((nodes <= v) | ((0 < i) & !((a < u) | ((a == u) & (b < v)))))

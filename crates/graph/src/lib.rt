@@ -16,6 +16,7 @@ mod nesting;
 use counts::first_bad_count;
 use edges::edge_rule;
 use edges::first_bad_edge;
+pub use edges::wrong_edge;
 use nesting::first_bad_loop;
 use paper::Trailer;
 use paper::Verdict;

@@ -23,8 +23,8 @@ use Rattle.layout.specs.declared.Layout.the-variants as Layouts
 use Rattle.paper.specs.Known.{Laid}
 use Rattle.layout.proofs.Laws.{refused-rules, read-trailer, read-laid}
 use Rattle.theory.proofs.Printed.{total-printed, set-printed, fact-printed}
-use Rattle.print.specs.Put.{Fits, Put}
-use Rattle.print.proofs.Putting.{put-length, put-whole}
+use Rattle.puts.specs.Put.{Fits, Put}
+use Rattle.puts.proofs.Putting.{put-length, put-whole}
 use Rattle.listing.specs.Listed.{after, numberLines, Printed}
 use Rattle.listing.proofs.Numbered.{lines-same}
 

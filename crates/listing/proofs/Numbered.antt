@@ -4,7 +4,7 @@ use native.Mathlib.Omega.{arith}
 use native.Mathlib.Numerals.{add-one}
 use mathlib.Core.Path.{_≡_, refl}
 use mathlib.Core.List.{List, [], _++_}
-use Rattle.print.proofs.Putting.{Left}
+use Rattle.puts.proofs.Putting.{Left}
 use Rattle.paper.specs.Listings.{lineOfTwo, linesFrom}
 
 -- a loop over n lines, of which the first i are put

@@ -4,7 +4,7 @@ ghost use lib.ListN.{length};
 ghost use Rattle.paper.specs.Bounds.{listLength};
 ghost use Rattle.paper.specs.Listings.{linesTo, refusalLine, printed, listingOf};
 ghost use Rattle.paper.specs.Verdicts as Verdicts;
-ghost use Rattle.print.specs.Put.{Fits, Put};
+ghost use Rattle.puts.specs.Put.{Fits, Put};
 ghost use Rattle.listing.specs.Listed as Listed;
 use layout::Layout;
 use paper::FACTS_FROM;

@@ -14,7 +14,9 @@ use Rattle.paper.specs.declared.BlockAnswer.{BlockAnswer}
 use Rattle.paper.specs.declared.BlockAnswer.the-variants as BlockAnswers
 use Rattle.paper.specs.declared.SetAnswer.{SetAnswer}
 use Rattle.paper.specs.declared.SetAnswer.the-variants as SetAnswers
-use Rattle.paper.specs.Answers.{refuseAt, Told, toldVerdict, toldTrace, toldOutcome, toldBlock, toldSet}
+use Rattle.paper.specs.declared.WriteAnswer.{WriteAnswer}
+use Rattle.paper.specs.declared.WriteAnswer.the-variants as WriteAnswers
+use Rattle.paper.specs.Answers.{refuseAt, Told, toldVerdict, toldTrace, toldOutcome, toldBlock, toldSet, toldWrite}
 
 -- The way back from what is told: a refusal, no value, a value.
 module _ {A : Type 0} (refused : Refusal → A) (plain : A) (valued : ℕ → A) where
@@ -61,6 +63,10 @@ set-back : (v : SetAnswer) → answer SetAnswers.Refused (set 0) set (toldSet v)
 set-back (SetAnswers.Found s) = refl
 set-back (SetAnswers.Refused r) = refl
 
+write-back : (v : WriteAnswer) → answer WriteAnswers.Refused (WriteAnswers.Written 0) WriteAnswers.Written (toldWrite v) ≡ v
+write-back (WriteAnswers.Written n) = refl
+write-back (WriteAnswers.Refused r) = refl
+
 pub same-verdict : (v v′ : Verdict) → toldVerdict v ≡ toldVerdict v′ → v ≡ v′
 same-verdict = same _ _ _ toldVerdict verdict-back
 
@@ -75,3 +81,6 @@ same-block = same _ _ _ toldBlock block-back
 
 pub same-set : (v v′ : SetAnswer) → toldSet v ≡ toldSet v′ → v ≡ v′
 same-set = same _ _ _ toldSet set-back
+
+pub same-write : (v v′ : WriteAnswer) → toldWrite v ≡ toldWrite v′ → v ≡ v′
+same-write = same _ _ _ toldWrite write-back

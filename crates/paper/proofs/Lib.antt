@@ -13,6 +13,7 @@ pub mod RowLaws
 pub mod FactLaws
 pub mod VerdictLaws
 pub mod FileLaws
+pub mod LayoutTests
 pub mod TestLaws
 pub mod Numbers
 pub mod LineLaws
@@ -22,6 +23,7 @@ pub mod MoveLaws
 pub mod StepLaws
 pub mod Parts
 pub mod Sections
+pub mod Widths
 pub mod SameGraphs
 pub mod SameFacts
 pub mod AnswerLaws

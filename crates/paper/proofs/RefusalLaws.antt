@@ -3,7 +3,7 @@ use Prim.Native.Nat.{ℕ, zero, suc, _+_, _≤_, _/_, _%_}
 use native.Mathlib.Omega.{arith}
 use mathlib.Core.Path.{_≡_, refl, ap}
 use mathlib.Core.Logic.{_⊎_, inl, inr, ⊎-elim}
-use mathlib.Core.Bool.{Bool, true, false, cond, not}
+use mathlib.Core.Bool.{Bool, true, false, cond, not, _||_}
 use mathlib.Core.List.{List, [], _∷_}
 use mathlib.Core.Option.{none}
 use lib.Dec.{eqb, ltb}
@@ -19,7 +19,7 @@ use Rattle.paper.specs.declared.Verdict.the-variants.{Accepted, Refused}
 use Rattle.paper.specs.declared.Outcome.the-variants.{Hit, Miss}
 use Rattle.paper.specs.declared.BlockAnswer.the-variants as BlockAnswers
 use Rattle.paper.specs.declared.SetAnswer.the-variants as SetAnswers
-use Rattle.paper.specs.Answers.{refuseAt, refuse, tells, Told, toldVerdict, toldTrace, toldOutcome, toldBlock, toldSet}
+use Rattle.paper.specs.Answers.{refuseAt, refuse, tells, Told, toldVerdict, toldTrace, toldOutcome, toldBlock, toldSet, toldWrite}
 use Rattle.paper.specs.Lists.{least, some}
 use Rattle.paper.specs.Machines.{emptySet, step, offered, setCount, legal, inRange}
 use Rattle.paper.specs.Operations.{refusedStep, stepAnswer, lineSize, blockAnswer, setAnswer}
@@ -30,6 +30,7 @@ use Rattle.paper.specs.Facts.{nonePrevious, previousOf, badHead, badOrde
 use Rattle.paper.specs.Files.{endAt, trailerOf, badLetters, badCache, badNumbers, badOffsets, factsAt, factAt, factEnd, factPlace, caseOf, readCase}
 use Rattle.paper.specs.Rules.{refused, ruleBy, rule}
 use Rattle.paper.specs.Verdicts.{layoutRules, shapeRules, pathRules, countRules, graphRules, headRule, orderRule, fetchRule, rowRules, stepRules, manyRules, bodyRules, turnRules, turnsFrom, factRules, verdict}
+use Rattle.paper.specs.Writing.{FileContent, trailerIn, caseIn, fileOf, contentRules, inTurn, badLists, badRowsNamed, writtenTurn, writtenFacts, listRules, writeVerdict, writeAnswer}
 
 -- the refusals that have a second place: 16, 17, 18, 24 and 25
 abbrev pub OfEvidence : ℕ → Type 0
@@ -120,6 +121,39 @@ verdict-numbered f room =
     (one 2 0 (badCache trailer)
     (one 3 0 (badNumbers trailer)
     (one 4 0 (badOffsets f trailer) (graph-numbered (readCase f) _ (facts-numbered f trailer Accepted (plain 1 toldVerdict Accepted [] refl))))))))
+
+-- the writer's refusals
+module _ (c : FileContent) where
+  written-numbered : (i : ℕ) (previous : Previous) (rest : Verdict) → Numbered 1 toldVerdict rest → Numbered 1 toldVerdict (writtenTurn c i previous rest)
+  unfolding writtenTurn contentRules headRule orderRule rowRules
+  written-numbered i previous rest h =
+      let e = caseIn c in
+      let s = e .fact i in
+      one 11 i (badHead e s)
+      (one 12 i (badOrder e previous s)
+      (one 14 i (badRowsNamed c i) (at-second 16 i _ (some (badRowAt e s) (size (scopeOf e s))) (inl (omega arith)) h)))
+
+  each-numbered : (n i : ℕ) (previous : Previous) (rest : Verdict) → Numbered 1 toldVerdict rest → Numbered 1 toldVerdict (inTurn (caseIn c) (writtenTurn c) n i previous rest)
+  unfolding inTurn
+  each-numbered zero i previous rest h = h
+  each-numbered (suc n) i previous rest h = written-numbered i previous _ (each-numbered n (suc i) (previousOf (caseIn c) (caseIn c .fact i)) rest h)
+
+  content-numbered : (room : ℕ) → Numbered 1 toldVerdict (writeVerdict c room)
+  unfolding writeVerdict listRules shapeRules writtenFacts
+  content-numbered room =
+      let e = caseIn c in
+      one 2 0 (badCache (trailerIn c))
+      (one 3 0 (badLists c || badNumbers (trailerIn c))
+      (one 5 _ (some (badEdge e) (e .edges))
+      (one 6 _ (some (badLoop e) (e .loops))
+      (each-numbered (trailerIn c .facts) 0 nonePrevious _ (one 19 0 (ltb room (length (fileOf c))) (plain 1 toldVerdict Accepted [] refl))))))
+
+  answer-numbered : (v : Verdict) → Numbered 1 toldVerdict v → Numbered 1 toldWrite (writeAnswer c v)
+  answer-numbered Accepted h = plain 1 toldWrite (writeAnswer c Accepted) _ refl
+  answer-numbered (Refused r) h = record { refused = h .refused; second = h .second }
+
+  pub write-numbered : (room : ℕ) → Numbered 1 toldWrite (writeAnswer c (writeVerdict c room))
+  write-numbered room = answer-numbered _ (content-numbered room)
 
 abbrev pub runTold : Run → Told
 runTold r = toldTrace (r .answer)

@@ -74,67 +74,70 @@ module _ (e d : Case) (s : SameGraph e d) (t u : Fact) (f : SameFact (size (scop
     unfolding breaks afterB afterMany afterSet
     breaks-same = rw (lacks-same, a .number, b .number, f .block) refl
 
-  module _ (shaped : Shaped e) (some-node : 1 ≤ e .nodes) (there : t .scope ≢ none → t .scope < e .loops) where
+  module _ (there : t .scope ≢ none → t .scope < e .loops) where
     pub scope-same : scopeOf e t ≡ scopeOf d u
     scope-same = rw (← f .scope) (range-same e d s (t .scope) there)
-
-    low : (v : ℕ) → In (scopeOf e t) v → v < e .nodes
-    low = range-low e shaped some-node (t .scope) there
-
-    -- 14
-    fetches-same : (j : ℕ) → j < size (scopeOf e t) → fetches e t j ≡ fetches d u j
-    unfolding fetches
-    fetches-same j l =
-        rw (← scope-same, ← f .block, s .fetch (scopeOf e t .first + j) (low _ (omega arith, omega arith))) refl
-
-    pub unfetched-same : unfetched e t ≡ unfetched d u
-    unfolding unfetched
-    unfetched-same =
-        ap not (some-same _ _ (size (scopeOf e t)) fetches-same ∙ ap (λ (l : Loop). some (fetches d u) (size l)) scope-same)
-
-    row-of : (v : ℕ) → In (scopeOf e t) v → SameSlots (rowOf e t v) (rowOf d u v)
-    row-of v i =
-        subst (λ (l : Loop). SameSlots (rowOf e t v) (u .row (v - l .first))) scope-same (f .rows (v - scopeOf e t .first) (omega arith))
-
-    step-same : (i : ℕ) → i < e .edges → badStepAt e t i ≡ badStepAt d u i
-    unfolding badStepAt
-    step-same i l =
-        rw (← scope-same, ← s .from i l, ← s .to i l)
-        (go (e .from i) (e .to i) (inside (scopeOf e t) (e .from i)) refl (inside (scopeOf e t) (e .to i)) refl)
-      where
-        go : (x y : ℕ) (a : Bool) → inside (scopeOf e t) x ≡ a → (b : Bool) → inside (scopeOf e t) y ≡ b →
-            ((a && b) && breaks e t (e .block x) (rowOf e t x) (rowOf e t y)) ≡ ((a && b) && breaks d u (d .block x) (rowOf d u x) (rowOf d u y))
-        go x y true p true q =
-            let i = says-true (inside-says (scopeOf e t) x) p in
-            let j = says-true (inside-says (scopeOf e t) y) q in
-            rw (← s .fetch x (low x i)) (breaks-same (e .block x) _ _ _ _ (row-of x i) (row-of y j))
-        go x y true p false q = refl
-        go x y false p b q = refl
-
-    -- 18
-    many-same : (j : ℕ) → j < size (scopeOf e t) → badManyAt e t j ≡ badManyAt d u j
-    unfolding badManyAt
-    many-same j l = rw (fetches-same j l, f .rows j l .number) refl
 
     row-at : (j : ℕ) → j < size (scopeOf e t) → badRowAt e t j ≡ badRowAt d u j
     unfolding badRowAt
     row-at j l = row-same (t .row j) (u .row j) (f .rows j l)
 
-    pub evidence-same : (i : ℕ) → Passes (evidenceRules e i t) ↔ Passes (evidenceRules d i u)
-    unfolding rowRules stepRules manyRules
-    evidence-same i =
-        let rows : some (badRowAt e t) (size (scopeOf e t)) ≡ some (badRowAt d u) (size (scopeOf d u))
-        = some-same _ _ (size (scopeOf e t)) row-at ∙ ap (λ (l : Loop). some (badRowAt d u) (size l)) scope-same in
-        let steps : some (badStepAt e t) (e .edges) ≡ some (badStepAt d u) (d .edges)
-        = some-same _ _ (e .edges) step-same ∙ ap (λ (n : ℕ). some (badStepAt d u) n) (s .edges) in
-        let many : some (badManyAt e t) (size (scopeOf e t)) ≡ some (badManyAt d u) (size (scopeOf d u))
-        = some-same _ _ (size (scopeOf e t)) many-same ∙ ap (λ (l : Loop). some (badManyAt d u) (size l)) scope-same in (
-          λ h.
-              let a = past-by _ _ _ h in
-              let b = past-by _ _ _ (a .1) in
-              rw (sym rows ∙ a .0, sym steps ∙ b .0, sym many ∙ past-by _ _ _ (b .1) .0) refl,
-          λ h.
-              let a = past-by _ _ _ h in
-              let b = past-by _ _ _ (a .1) in
-              rw (rows ∙ a .0, steps ∙ b .0, many ∙ past-by _ _ _ (b .1) .0) refl,
-        )
+    pub rows-same : some (badRowAt e t) (size (scopeOf e t)) ≡ some (badRowAt d u) (size (scopeOf d u))
+    rows-same = some-same _ _ (size (scopeOf e t)) row-at ∙ ap (λ (l : Loop). some (badRowAt d u) (size l)) scope-same
+
+    module _ (shaped : Shaped e) (some-node : 1 ≤ e .nodes) where
+      low : (v : ℕ) → In (scopeOf e t) v → v < e .nodes
+      low = range-low e shaped some-node (t .scope) there
+
+      -- 14
+      fetches-same : (j : ℕ) → j < size (scopeOf e t) → fetches e t j ≡ fetches d u j
+      unfolding fetches
+      fetches-same j l =
+          rw (← scope-same, ← f .block, s .fetch (scopeOf e t .first + j) (low _ (omega arith, omega arith))) refl
+
+      pub unfetched-same : unfetched e t ≡ unfetched d u
+      unfolding unfetched
+      unfetched-same =
+          ap not (some-same _ _ (size (scopeOf e t)) fetches-same ∙ ap (λ (l : Loop). some (fetches d u) (size l)) scope-same)
+
+      row-of : (v : ℕ) → In (scopeOf e t) v → SameSlots (rowOf e t v) (rowOf d u v)
+      row-of v i =
+          subst (λ (l : Loop). SameSlots (rowOf e t v) (u .row (v - l .first))) scope-same (f .rows (v - scopeOf e t .first) (omega arith))
+
+      step-same : (i : ℕ) → i < e .edges → badStepAt e t i ≡ badStepAt d u i
+      unfolding badStepAt
+      step-same i l =
+          rw (← scope-same, ← s .from i l, ← s .to i l)
+          (go (e .from i) (e .to i) (inside (scopeOf e t) (e .from i)) refl (inside (scopeOf e t) (e .to i)) refl)
+        where
+          go : (x y : ℕ) (a : Bool) → inside (scopeOf e t) x ≡ a → (b : Bool) → inside (scopeOf e t) y ≡ b →
+              ((a && b) && breaks e t (e .block x) (rowOf e t x) (rowOf e t y)) ≡ ((a && b) && breaks d u (d .block x) (rowOf d u x) (rowOf d u y))
+          go x y true p true q =
+              let i = says-true (inside-says (scopeOf e t) x) p in
+              let j = says-true (inside-says (scopeOf e t) y) q in
+              rw (← s .fetch x (low x i)) (breaks-same (e .block x) _ _ _ _ (row-of x i) (row-of y j))
+          go x y true p false q = refl
+          go x y false p b q = refl
+
+      -- 18
+      many-same : (j : ℕ) → j < size (scopeOf e t) → badManyAt e t j ≡ badManyAt d u j
+      unfolding badManyAt
+      many-same j l = rw (fetches-same j l, f .rows j l .number) refl
+
+      pub evidence-same : (i : ℕ) → Passes (evidenceRules e i t) ↔ Passes (evidenceRules d i u)
+      unfolding rowRules stepRules manyRules
+      evidence-same i =
+          let rows = rows-same in
+          let steps : some (badStepAt e t) (e .edges) ≡ some (badStepAt d u) (d .edges)
+          = some-same _ _ (e .edges) step-same ∙ ap (λ (n : ℕ). some (badStepAt d u) n) (s .edges) in
+          let many : some (badManyAt e t) (size (scopeOf e t)) ≡ some (badManyAt d u) (size (scopeOf d u))
+          = some-same _ _ (size (scopeOf e t)) many-same ∙ ap (λ (l : Loop). some (badManyAt d u) (size l)) scope-same in (
+            λ h.
+                let a = past-by _ _ _ h in
+                let b = past-by _ _ _ (a .1) in
+                rw (sym rows ∙ a .0, sym steps ∙ b .0, sym many ∙ past-by _ _ _ (b .1) .0) refl,
+            λ h.
+                let a = past-by _ _ _ h in
+                let b = past-by _ _ _ (a .1) in
+                rw (rows ∙ a .0, steps ∙ b .0, many ∙ past-by _ _ _ (b .1) .0) refl,
+          )

@@ -81,13 +81,16 @@ module _ (e d : Case) (s : SameGraph e d) where
   unfolding badCount
   bad-count-same v = ap (λ (n : ℕ). ltb 4294967295 n) (count-same v)
 
-  -- so the graph's chain says the same of both
+  -- so the graph's chains say the same of both
+  pub shape-same : (a b : Verdict) → a ≡ b → shapeRules e a ≡ shapeRules d b
+  unfolding shapeRules
+  shape-same a b r = rule-at-same 6 (s .edges) edge-same (rule-at-same 7 (s .loops) loop-same r)
+
   pub graph-same : (rest : Verdict) → graphRules e rest ≡ graphRules d rest
-  unfolding shapeRules pathRules countRules
+  unfolding pathRules countRules
   graph-same rest =
-      rule-at-same 6 (s .edges) edge-same
-      (rule-at-same 7 (s .loops) loop-same
-      (rule-at-same 8 (s .edges) entry-same (rule-at-same 9 (s .edges) return-same (rule-at-same 10 (s .nodes) (λ v l. bad-count-same v) refl))))
+      shape-same _ _
+      (rule-at-same 8 (s .edges) entry-same (rule-at-same 9 (s .edges) return-same (rule-at-same 10 (s .nodes) (λ v l. bad-count-same v) refl)))
 
   -- a range that there is
   module _ (w : ℕ) (there : w ≢ none → w < e .loops) where

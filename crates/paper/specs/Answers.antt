@@ -14,6 +14,8 @@ use Rattle.paper.specs.declared.BlockAnswer.{BlockAnswer}
 use Rattle.paper.specs.declared.BlockAnswer.the-variants as BlockAnswers
 use Rattle.paper.specs.declared.SetAnswer.{SetAnswer}
 use Rattle.paper.specs.declared.SetAnswer.the-variants as SetAnswers
+use Rattle.paper.specs.declared.WriteAnswer.{WriteAnswer}
+use Rattle.paper.specs.declared.WriteAnswer.the-variants as WriteAnswers
 
 -- "The result gets a second place."
 abbrev pub refuseAt : ℕ → ℕ → ℕ → Refusal
@@ -59,6 +61,11 @@ toldBlock (BlockAnswers.Refused r) = tellsWhy r
 abbrev pub toldSet : SetAnswer → Told
 toldSet (SetAnswers.Found s) = tells (s .0 ∷ [])
 toldSet (SetAnswers.Refused r) = tellsWhy r
+
+-- the written file's length; its bytes are in the lent buffer
+abbrev pub toldWrite : WriteAnswer → Told
+toldWrite (WriteAnswers.Written n) = tells (n ∷ [])
+toldWrite (WriteAnswers.Refused r) = tellsWhy r
 
 -- The value told, or `before` where none is: a number that is written only where nothing is refused.
 abbrev pub valueOr : ℕ → Told → ℕ

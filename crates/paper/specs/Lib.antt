@@ -20,6 +20,7 @@ pub mod Verdicts
 pub mod OneFact
 pub mod Listings
 pub mod Demands
+pub mod Writing
 pub mod Checked
 pub mod NextBits
 pub mod Patterns

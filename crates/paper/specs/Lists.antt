@@ -1,8 +1,9 @@
 -- Tests, sums, products and lists over the numbers below n. Each rule of the paper that looks for "the least place" is one `least`.
 use Prim.Native.Nat.{ℕ, zero, suc, _+_, _*_, min}
 use mathlib.Core.Bool.{Bool, true, false, cond}
-use mathlib.Core.List.{List, [], _∷_}
+use mathlib.Core.List.{List, [], _∷_, _++_}
 use lib.Dec.{ltb}
+use lib.ListN.{getD}
 
 unfoldable pub leastFrom : (ℕ → Bool) → ℕ → ℕ → ℕ
 leastFrom p i zero = i
@@ -40,3 +41,17 @@ table g (suc n) = g 0 ∷ table (λ i. g (suc i)) n
 abbrev pub bit : Bool → ℕ
 bit true = 1
 bit false = 0
+
+-- The lists g 0, g 1, … one after another, n of them.
+unfoldable pub each : (ℕ → List ℕ) → ℕ → List ℕ
+each g zero = []
+each g (suc n) = each g n ++ g n
+
+-- What g says at p, p + d, p + 2d, …, n times.
+unfoldable pub spaced : (ℕ → ℕ) → ℕ → ℕ → ℕ → List ℕ
+spaced g d p zero = []
+spaced g d p (suc n) = g p ∷ spaced g d (p + d) n
+
+-- The n numbers of the list from p on. (Past its end a list reads as 0.)
+abbrev pub part : List ℕ → ℕ → ℕ → List ℕ
+part l p n = spaced (λ q. getD l q 0) 1 p n

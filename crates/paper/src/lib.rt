@@ -106,6 +106,12 @@ pub enum SetAnswer {
     Refused(Refusal),
 }
 
+// "Case file out in a lent buffer": how many bytes of it the file takes.
+pub enum WriteAnswer {
+    Written(usize),
+    Refused(Refusal),
+}
+
 // "The loops are handed on as a list of records: first node, last node, bound."
 pub struct Loop {
     pub first: u16,

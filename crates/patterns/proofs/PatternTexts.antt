@@ -10,8 +10,8 @@ use Rattle.paper.specs.Listings.{bytes}
 use Rattle.paper.specs.NextBits.{nextBits}
 use Rattle.paper.specs.Patterns.{binary, nextFrom, patternLine, patternsFrom, patterns}
 use Rattle.paper.proofs.TableLaws.{getD-table}
-use Rattle.print.specs.Put.{Fits, Put}
-use Rattle.print.proofs.Putting.{Left, put-whole}
+use Rattle.puts.specs.Put.{Fits, Put}
+use Rattle.puts.proofs.Putting.{Left, put-whole}
 
 pub binary-length : (bits n : ℕ) → length (binary bits n) ≡ n
 unfolding binary

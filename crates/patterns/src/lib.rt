@@ -4,7 +4,7 @@ ghost use Prim.Native.Nat.{_<_};
 ghost use lib.ListN.{length};
 ghost use Rattle.paper.specs.NextBits.{nextBits};
 ghost use Rattle.paper.specs.Patterns as Patterns;
-ghost use Rattle.print.specs.Put.{Fits, Put};
+ghost use Rattle.puts.specs.Put.{Fits, Put};
 
 // 256 lines of 81 bytes.
 pub const LENGTH: usize = 20736;

@@ -24,7 +24,7 @@ pub fn read(into: &mut [u8]) -> bool {
     io::read_full(STDIN_FILENO, into) == into.len()
 }
 
-fn written(answer: &[u8]) -> Frame {
+pub fn written(answer: &[u8]) -> Frame {
     if io::write_all(STDOUT_FILENO, answer) {
         Frame::Answered
     } else {

@@ -9,7 +9,7 @@ use mathlib.Core.List.{List}
 use borrow.Author.Tests.{lt-ltb, le-ltb}
 use lib.ListN.{length, length-append}
 use Rattle.paper.specs.declared.Refusal.{Refusal}
-use Rattle.print.specs.Put.{Fits}
+use Rattle.puts.specs.Put.{Fits}
 use Rattle.paper.specs.Listings.{bytes, digit, decimalIn, decimal, line, lineOfTwo, refusalLine}
 
 short-in : (turns k n : ℕ) → n < 10 ^ suc k → length (decimalIn turns n) ≤ suc k

@@ -2,7 +2,7 @@
 ghost use Prim.Native.Nat.{_+_, _≤_};
 ghost use lib.ListN.{length};
 ghost use Rattle.paper.specs.Listings.{decimal, line as Listings·line, lineOfTwo, refusalLine};
-ghost use Rattle.print.specs.Put.{Fits, Put};
+ghost use Rattle.puts.specs.Put.{Fits, Put};
 use libc::STDOUT_FILENO;
 use paper::Refusal;
 

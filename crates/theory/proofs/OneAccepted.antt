@@ -9,33 +9,33 @@ use lib.ListN.{length, getD}
 use borrow.Author.Tests.{le-ltb, ltb-false}
 use Rattle.paper.specs.declared.Loop.{Loop}
 use Rattle.paper.specs.declared.Trailer.{Trailer}
-use Rattle.paper.specs.declared.Verdict.{Verdict}
 use Rattle.paper.specs.declared.Verdict.the-variants.{Accepted}
 use Rattle.paper.specs.Machines.{none}
 use Rattle.paper.specs.Cases.{Fact, size, rangeOf, scopeOf, fetches}
 use Rattle.paper.specs.Facts.{nonePrevious, wrongOrder, badHead, badOrder, unfetched}
-use Rattle.paper.specs.Files.{u16At, u32At, endAt, trailerOf, badCache, edgesAt, loopsAt, factsAt, nodeAt, fromAt, toAt, loopAt, factEnd, factPlace, caseOf, readCase}
+use Rattle.paper.specs.Files.{u16At, u32At, endAt, trailerOf, edgesAt, loopsAt, factsAt, nodeAt, fromAt, toAt, loopAt, factEnd, factPlace, caseOf, readCase}
 use Rattle.paper.specs.Known.{Shaped}
 use Rattle.paper.specs.Rules.{Passes}
-use Rattle.paper.specs.Verdicts.{layoutRules, graphRules, headRule, orderRule, fetchRule, evidenceRules, bodyRules, turnRules, turnsFrom, factRules, wholeFileRules, verdict}
+use Rattle.paper.specs.Verdicts.{graphRules, headRule, orderRule, fetchRule, evidenceRules, bodyRules, turnRules, turnsFrom, factRules, wholeFileRules, verdict}
 use Rattle.paper.specs.OneFact.{graphBytes, fileWith}
 use Rattle.paper.specs.Demands.{withRows}
 use Rattle.paper.proofs.Meaning.{SoundEvidence}
 use Rattle.paper.proofs.RuleLaws.{past, accepted-on}
 use Rattle.paper.proofs.FileLaws.{laid}
+use Rattle.paper.proofs.LayoutTests.{KeptLayout, tests-kept, layout-on}
 use Rattle.paper.proofs.FactLaws.{head-sound, evidence-law}
 use Rattle.paper.proofs.VerdictLaws.{layout-kept, graph-kept, hands-graph, turn-kept}
 use Rattle.paper.proofs.Parts.{stands-self, stands-take}
 use Rattle.paper.proofs.Sections.{word-is, u16-same, u32-same}
 use Rattle.paper.proofs.SameGraphs.{SameGraph, graph-same, range-same}
 use Rattle.paper.proofs.SameFacts.{SameFact, head-same, unfetched-same, evidence-same}
-use Rattle.theory.proofs.OneFile.{KeptLayout, tests-kept, oneOf, graph-length, graph-part, head-part, rows-part, end-is, trailer-is, one-layout}
+use Rattle.theory.proofs.OneFile.{oneOf, graph-length, graph-part, head-part, rows-part, end-is, trailer-is, one-layout}
 
 -- A file that keeps the rules 1 to 5 is judged by its graph and its facts.
 judged-on : (f : List ℕ) (trailer : Trailer) → trailerOf f ≡ trailer → KeptLayout f trailer → (room : ℕ) → 321 ≤ room →
     verdict f room ≡ graphRules (caseOf f trailer) (factRules f trailer Accepted)
-unfolding verdict layoutRules badCache
-judged-on f trailer e l room h = rw (e, le-ltb room 321 h, le-ltb (length f) 32 (l .long), l .letters, l .cache, l .numbers, l .offsets) refl
+unfolding verdict
+judged-on f trailer e l room h = rw (le-ltb room 321 h, layout-on f trailer e l (graphRules (readCase f) (factRules f (trailerOf f) Accepted)), e) refl
 
 module _ (f : List ℕ) (t : Fact) (rows : List ℕ) (kept : KeptLayout f (trailerOf f)) where
   abbrev file : List ℕ
@@ -146,7 +146,7 @@ module _ (f : List ℕ) (t : Fact) (rows : List ℕ) (kept : KeptLayout f (trail
 
       same-evidence : Passes (evidenceRules (readCase f) 0 with) ↔ Passes (evidenceRules (caseOf file one) 0 read)
       unfolding caseOf
-      same-evidence = evidence-same (readCase f) (caseOf file one) same-graph with read same g some-node there 0
+      same-evidence = evidence-same (readCase f) (caseOf file one) same-graph with read same there g some-node 0
 
       same-head : badHead (caseOf file one) read ≡ false
       unfolding badHead
@@ -154,7 +154,7 @@ module _ (f : List ℕ) (t : Fact) (rows : List ℕ) (kept : KeptLayout f (trail
 
       same-fetched : unfetched (caseOf file one) read ≡ false
       unfolding caseOf unfetched fetches
-      same-fetched = sym (unfetched-same (readCase f) (caseOf file one) same-graph with read same g some-node there) ∙ fetched
+      same-fetched = sym (unfetched-same (readCase f) (caseOf file one) same-graph with read same there g some-node) ∙ fetched
 
       one-accepted : Passes (evidenceRules (readCase f) 0 with) → factRules file one Accepted ≡ Accepted
       unfolding factRules turnsFrom turnRules headRule orderRule bodyRules fetchRule badOrder wrongOrder factPlace caseOf

@@ -2,23 +2,17 @@
 use Prim.Native.Nat.{ℕ, _+_, _-_, _≤_, _<_}
 use native.Mathlib.Omega.{arith}
 use mathlib.Core.Path.{_≡_, refl, sym, _∙_, ap}
-use mathlib.Core.Bool.{true, false, not}
+use mathlib.Core.Bool.{false}
 use mathlib.Core.List.{List, [], _∷_, _++_}
-use lib.Dec.{eqb, ltb}
 use lib.ListN.{length, take, drop, length-append, length-take, length-drop}
-use borrow.Author.Tests.{le-ltb, eq-eqb, ltb-false, eqb-true, not-false}
+use borrow.Author.Tests.{le-ltb, eq-eqb}
 use Rattle.paper.specs.declared.Trailer.{Trailer}
-use Rattle.paper.specs.declared.Verdict.{Verdict}
-use Rattle.paper.specs.declared.Verdict.the-variants.{Accepted}
-use Rattle.paper.specs.Machines.{inRange}
 use Rattle.paper.specs.Cases.{Fact}
-use Rattle.paper.specs.Files.{u8At, u16At, u32At, endAt, trailerOf, badLetter, badLetters, badCache, badNumbers, badOffsets, edgesAt, loopsAt, factsAt}
-use Rattle.paper.specs.Verdicts.{layoutRules}
+use Rattle.paper.specs.Files.{u8At, u16At, u32At, endAt, trailerOf, badLetter, badLetters, badNumbers, badOffsets, factsAt}
 use Rattle.paper.specs.OneFact.{words, graphBytes, headBytes, trailerWith, fileWith}
 use Rattle.paper.proofs.Least.{some-same}
-use Rattle.paper.proofs.Says.{neither}
-use Rattle.paper.proofs.RuleLaws.{past}
 use Rattle.paper.proofs.FileLaws.{laid}
+use Rattle.paper.proofs.LayoutTests.{KeptLayout, Offsets, offsets-at}
 use Rattle.paper.proofs.Parts.{Stands, stands-self, stands-left, stands-right, stands-take, stands-drop, stands-move}
 use Rattle.paper.proofs.Sections.{length-words, word-is, u8-same, u16-same, u32-same}
 
@@ -33,46 +27,6 @@ oneOf f =
       policy = trailerOf f .policy;
       ways = trailerOf f .ways;
       sets = trailerOf f .sets;
-    }
-
--- rules 1 to 5, test by test
-pub record KeptLayout (f : List ℕ) (trailer : Trailer) : Type 0 where
-  pub long : 32 ≤ length f
-  pub letters : badLetters f ≡ false
-  pub cache : inRange (trailer .policy) (trailer .ways) (trailer .sets) ≡ true
-  pub numbers : badNumbers trailer ≡ false
-  pub offsets : badOffsets f trailer ≡ false
-
-pub tests-kept : (f : List ℕ) (rest : Verdict) → layoutRules f rest ≡ Accepted → KeptLayout f (trailerOf f)
-unfolding layoutRules badCache
-tests-kept f rest h =
-    let a = past 1 0 (ltb (length f) 32) _ h in
-    let b = past 2 0 (badLetters f) _ (a .1) in
-    let c = past 3 0 _ _ (b .1) in
-    let d = past 4 0 _ _ (c .1) in
-    record { long = ltb-false _ _ (a .0); letters = b .0; cache = not-false _ (c .0); numbers = d .0; offsets = past 5 0 _ _ (d .1) .0 }
-
--- 5
-record Offsets (f : List ℕ) (trailer : Trailer) : Type 0 where
-  nodes : u32At f (endAt f) ≡ 0
-  edges : u32At f (endAt f + 4) ≡ edgesAt trailer
-  loops : u32At f (endAt f + 8) ≡ loopsAt trailer
-  facts : u32At f (endAt f + 12) ≡ factsAt trailer
-  room : factsAt trailer ≤ endAt f
-
-offsets-at : (f : List ℕ) (trailer : Trailer) → badOffsets f trailer ≡ false → Offsets f trailer
-unfolding badOffsets
-offsets-at f trailer h =
-    let a = neither (not (eqb (u32At f (endAt f)) 0)) _ h in
-    let b = neither (not (eqb (u32At f (endAt f + 4)) (edgesAt trailer))) _ (a .1) in
-    let c = neither (not (eqb (u32At f (endAt f + 8)) (loopsAt trailer))) _ (b .1) in
-    let d = neither (not (eqb (u32At f (endAt f + 12)) (factsAt trailer))) _ (c .1) in
-    record {
-      nodes = eqb-true _ _ (not-false _ (a .0));
-      edges = eqb-true _ _ (not-false _ (b .0));
-      loops = eqb-true _ _ (not-false _ (c .0));
-      facts = eqb-true _ _ (not-false _ (d .0));
-      room = ltb-false _ _ (d .1);
     }
 
 module _ (f : List ℕ) (t : Fact) (rows : List ℕ) (kept : KeptLayout f (trailerOf f)) where

@@ -39,24 +39,38 @@ pub fn read_facts(layout: &Layout, ground: &Ground) -> Result<Vec<Fact>, Refusal
 /// One fact, or the first rule that it breaks.
 fn read_fact(rest: &mut &[u8], place: usize, previous: Option<&Fact>, ground: &Ground) -> Result<Fact, Refusal> {
     let refuse = |number| Refusal::new(number, place);
-    let head: [u16; 3] = take_array(rest).ok_or(refuse(11))?;
-    let mut fact = ground.read_head(head).ok_or(refuse(12))?;
-    let behind = previous.is_none_or(|before| !ground.out_of_order(before, &fact));
-    behind.then_some(()).ok_or(refuse(13))?;
+    let head = take_array(rest).ok_or(refuse(11))?;
+    let mut fact = ground.take_turn(place, previous, head)?;
     ground.graph.fetchers(fact.scope, fact.block).next().ok_or(refuse(14))?;
-    let size = ground.graph.scope_nodes(fact.scope).count();
-    let rows = take_rows(rest, size).ok_or(refuse(15))?;
-    fact.rows = ground.read_rows(&fact, &rows).map_err(|node| refuse(16).at(node))?;
+    let rows = take_rows(rest, ground.size(&fact)).ok_or(refuse(15))?;
+    fact.rows = ground.sound_rows(place, &fact, &rows)?;
     let broken = ground.broken(&fact).next();
     broken.map_or(Ok(fact), |(number, second)| Err(refuse(number).at(second)))
 }
 
-fn take_rows(rest: &mut &[u8], size: usize) -> Option<Vec<RowRecord>> {
+pub fn take_rows(rest: &mut &[u8], size: usize) -> Option<Vec<RowRecord>> {
     (0..size).map(|_| take_array(rest)).collect()
 }
 
 impl Ground<'_> {
-    /// Rule 12: "its loop number, block or l out of range". The rows come later.
+    /// Rules 12 and 13: the head of the fact at this place. The rows come later.
+    pub fn take_turn(&self, place: usize, previous: Option<&Fact>, head: [u16; 3]) -> Result<Fact, Refusal> {
+        let fact = self.read_head(head).ok_or(Refusal::new(12, place))?;
+        let behind = previous.is_none_or(|before| !self.out_of_order(before, &fact));
+        behind.then_some(fact).ok_or(Refusal::new(13, place))
+    }
+
+    /// How many nodes the fact's scope has.
+    pub fn size(&self, fact: &Fact) -> usize {
+        self.graph.scope_nodes(fact.scope).count()
+    }
+
+    /// Rule 16: the rows of the fact at this place.
+    pub fn sound_rows(&self, place: usize, fact: &Fact, records: &[RowRecord]) -> Result<Vec<Row>, Refusal> {
+        self.read_rows(fact, records).map_err(|node| Refusal::new(16, place).at(node))
+    }
+
+    /// Rule 12: "its loop number, block or l out of range".
     pub fn read_head(&self, [scope, block, limit]: [u16; 3]) -> Option<Fact> {
         let limit = usize::from(limit);
         let in_range = (1..=self.geometry.shape.ways).contains(&limit);

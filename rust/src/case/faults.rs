@@ -13,9 +13,8 @@ pub struct Faults {
 }
 
 impl Faults {
-    /// Of the fact at this place, in a file that is sound up to the fact's rows.
-    pub fn of(file: &[u8], place: usize) -> Option<Faults> {
-        let draft = Draft::skim(file).ok()?;
+    /// Of the fact at this place, in lists that are sound up to the fact's rows.
+    pub fn of(draft: &Draft, place: usize) -> Option<Faults> {
         let graph = Graph::new(&draft.lists);
         let geometry = Geometry::read(draft.policy, draft.ways, draft.sets).ok()?;
         let ground = Ground { geometry, graph: &graph, rules: &Paper };

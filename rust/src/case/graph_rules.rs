@@ -18,7 +18,7 @@ pub fn read_graph(layout: &Layout) -> Result<Graph, Refusal> {
 }
 
 /// "edge end not below n, or edge not after the one before it"
-fn rule_6(lists: &Lists) -> Result<(), Refusal> {
+pub fn rule_6(lists: &Lists) -> Result<(), Refusal> {
     let n = lists.nodes.len();
     let mut before = None;
     refuse_least(
@@ -33,7 +33,7 @@ fn rule_6(lists: &Lists) -> Result<(), Refusal> {
 /// "loop's first above last, last not below n, B out of range, first not above that of the loop before it, or it crosses
 /// an earlier loop". Up to the least bad loop all are nested or apart, so the loops that have begun and not ended form a
 /// stack, the innermost on top: a loop crosses an earlier one exactly if it ends after the top.
-fn rule_7(lists: &Lists) -> Result<(), Refusal> {
+pub fn rule_7(lists: &Lists) -> Result<(), Refusal> {
     let n = lists.nodes.len();
     let mut before = None;
     let mut open: Vec<u16> = Vec::new();

@@ -42,12 +42,6 @@ impl Trailer {
         Some(Trailer { offsets, numbers, policy, ways, sets, version, letters: take::<u32>(from)?.to_le_bytes() })
     }
 
-    /// Rule 4, "a number of nodes, edges, loops or facts out of range".
-    fn numbers_in_range(&self) -> bool {
-        let ranges = LEAST.iter().zip(&LARGEST);
-        self.numbers.iter().zip(ranges).all(|(number, (least, largest))| (least..=largest).contains(&number))
-    }
-
     /// Where nodes, edges, loops and facts begin when they follow each other "without gaps, from offset 0".
     fn starts(&self) -> [u64; 4] {
         let mut starts = [0; 4];
@@ -58,9 +52,18 @@ impl Trailer {
     }
 }
 
+/// How many nodes, edges, loops and facts there are.
+pub type Numbers = [usize; 4];
+
+/// Rule 4, "a number of nodes, edges, loops or facts out of range".
+pub fn numbers_in_range(numbers: Numbers) -> bool {
+    let ranges = LEAST.iter().zip(&LARGEST);
+    numbers.iter().zip(ranges).all(|(&number, (&least, &largest))| (least.into()..=largest.into()).contains(&number))
+}
+
 /// The numbers of nodes, edges, loops and facts that a file claims to have.
-pub fn claimed_numbers(file: &[u8]) -> Option<[u16; 4]> {
-    Some(Trailer::read(file.last_chunk::<TRAILER>()?)?.numbers)
+pub fn claimed_numbers(file: &[u8]) -> Option<Numbers> {
+    Some(Trailer::read(file.last_chunk::<TRAILER>()?)?.numbers.map(usize::from))
 }
 
 pub fn read_layout(file: &[u8]) -> Result<Layout<'_>, Refusal> {
@@ -69,7 +72,7 @@ pub fn read_layout(file: &[u8]) -> Result<Layout<'_>, Refusal> {
         split.and_then(|(body, last)| Some((body, Trailer::read(last)?))).ok_or(Refusal::new(1, 0))?;
     demand(2, trailer.letters == *b"QMBT" && trailer.version == 1)?;
     let geometry = Geometry::read(trailer.policy, trailer.ways, trailer.sets)?;
-    demand(4, trailer.numbers_in_range())?;
+    demand(4, numbers_in_range(trailer.numbers.map(usize::from)))?;
     let starts = trailer.starts();
     demand(5, trailer.offsets.map(u64::from) == starts && starts[3] <= body.len() as u64)?;
     let [_, edges, loops, facts] = starts.map(|start| start as usize);

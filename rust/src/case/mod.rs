@@ -1,6 +1,7 @@
 //! Case files: their lists, the rules that they keep or break, and the bounds that they earn.
 
 mod bounds;
+mod content;
 mod draft;
 mod facts;
 mod faults;
@@ -10,16 +11,19 @@ mod layout;
 mod rows;
 mod rules;
 mod verdict;
+mod writer;
 
 pub use bounds::Bounds;
+pub use content::Content;
 pub use draft::{Draft, FactRecord, Lists, LoopRecord};
 pub use facts::Fact;
 pub use faults::Faults;
 pub use graph::{Graph, Loop, Scope};
-pub use layout::{claimed_numbers, LARGEST, TRAILER};
+pub use layout::{claimed_numbers, Numbers, LARGEST, TRAILER};
 pub use rows::{Row, RowRecord};
 pub use rules::{Paper, Rules, Stakes};
 pub use verdict::{check, judge, Case, NUMBERS};
+pub use writer::{read_content, write};
 
 /// "B from 1 to 1,000,000".
 pub const LARGEST_BOUND: u32 = 1_000_000;

@@ -73,7 +73,7 @@ fn heavy_fact(policy: u8, limit: u16) -> Draft {
     draft
 }
 
-pub fn files() -> Vec<Vec<u8>> {
+pub fn drafts() -> Vec<Draft> {
     let mut drafts = vec![
         nodes(1),
         nodes(0),
@@ -98,5 +98,5 @@ pub fn files() -> Vec<Vec<u8>> {
     ];
     drafts.extend((0..3).flat_map(|policy| [1, 10, 1_000_000].map(|bound| alone(policy, bound))));
     drafts.extend((0..3).flat_map(|policy| [heavy(policy), heavy_fact(policy, 2), heavy_fact(policy, 8)]));
-    drafts.iter().map(Draft::write).collect()
+    drafts
 }

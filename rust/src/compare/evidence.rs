@@ -1,6 +1,7 @@
 //! Evidence exists exactly when it should: on small graphs, for each block, scope and limit.
 
 use super::gathering::{gather, Gathered};
+use super::writes::all_again;
 use super::{agree, Settings};
 use crate::case::{Draft, FactRecord, Graph, Lists, Row, Scope, NUMBERS};
 use crate::generate::cases::{sound, Plan};
@@ -85,6 +86,7 @@ fn try_all(pipe: &Pipe, trials: &[Tried<Draft>], counts: &mut BTreeMap<Trial, u6
     let check = |tried: &Tried<Draft>| Request::Check { file: tried.rows.write(), numbers: vec![1; NUMBERS] };
     let requests: Vec<Request> = trials.iter().map(check).collect();
     let answers = agree(pipe, &requests)?;
+    all_again(pipe, &requests)?;
     for (tried, answer) in trials.iter().zip(answers) {
         if !tried.met_by(answer.refusal) {
             let file = show::file(&tried.rows.write());

@@ -1,12 +1,14 @@
-//! Case files, sound and damaged: verdict, place, all 321 numbers and the untouched memory.
+//! Case files, sound and damaged: verdict, place, all 321 numbers and the untouched memory; and their contents written
+//! again.
 
 use super::kinds::Kinds;
-use super::{borders, Comparison, Settings};
+use super::{borders, writes, Comparison, Settings};
 use crate::case::{Paper, NUMBERS};
 use crate::generate::cases::{sound, Plan};
 use crate::generate::damage::{damage, scatter, RULES};
 use crate::pipe::{Pipe, Request};
 use crate::random::Random;
+use crate::tally::seconds;
 
 /// How often each refusal must be seen.
 const AT_LEAST: u64 = 50;
@@ -15,8 +17,9 @@ pub fn run(pipe: &Pipe, settings: &Settings) -> Result<(), String> {
     let mut random = Random::for_part(settings.seed, "files");
     let mut comparison = Comparison::new(pipe);
     let mut kinds = Kinds::default();
-    for file in borders::files() {
-        comparison.add(check(&mut random, file, NUMBERS + 3))?;
+    for draft in borders::drafts() {
+        let request = check(&mut random, draft.write(), NUMBERS + 3);
+        both_ways(&mut comparison, request)?;
     }
     for i in 0..settings.files {
         let request = match i % 20 {
@@ -24,16 +27,27 @@ pub fn run(pipe: &Pipe, settings: &Settings) -> Result<(), String> {
             9 | 10 => scattered_file(&mut random),
             _ => damaged_file(&mut random, i / 20),
         };
-        comparison.add(request)?;
+        both_ways(&mut comparison, request)?;
     }
     comparison.flush()?;
     kinds.report();
     let tally = &comparison.tally;
     println!("case files, {} and some at the limits, by refusal:\n{}", settings.files, tally.table(5));
+    println!("of these, written again as the same bytes: {}", tally.get(6, 0).count);
     println!("second places: apart from the number in the scope, one of several, of several rules, before an 18:");
     println!("{}", tally.seconds.table());
     tally.demand(5, RULES.into_iter().chain([0]), AT_LEAST)?;
-    tally.seconds.demand(AT_LEAST / 5)
+    tally.seconds.demand(&seconds::NUMBERS, AT_LEAST / 5)
+}
+
+/// The check; and the file's content written again, if it passes the layout rules.
+fn both_ways(comparison: &mut Comparison, request: Request) -> Result<(), String> {
+    let again = match &request {
+        Request::Check { file, .. } => writes::again(file)?,
+        _ => None,
+    };
+    comparison.add(request)?;
+    again.map_or(Ok(()), |written| comparison.add(written))
 }
 
 /// A lent list with noise in it.

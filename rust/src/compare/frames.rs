@@ -1,6 +1,7 @@
 //! Frames that cannot be answered: "A frame that cannot be answered ends the conversation."
 
 use super::Settings;
+use crate::case::Content;
 use crate::machine::SetState;
 use crate::pipe::{room, Answer, Ending, Pipe, Request};
 use crate::random::Random;
@@ -24,7 +25,22 @@ fn small_frames() -> Vec<Request> {
         Request::Set { block: 77, sets: 8 },
         Request::Trace { policy: 1, ways: 2, sets: 1, blocks: vec![1, 2, 3], marks: vec![7; 4] },
         Request::Check { file: vec![81, 77, 66, 84], numbers: vec![5] },
+        Request::Write { content: content([1, 2, 3, 4, 8]), out: vec![7; 50] },
     ]
+}
+
+/// Lists of so many numbers, all 0, but that policy, ways and sets are in range.
+fn content([nodes, edges, loops, heads, rows]: [usize; 5]) -> Content {
+    Content {
+        policy: 1,
+        ways: 2,
+        sets: 1,
+        nodes: vec![0; nodes],
+        edges: vec![0; edges],
+        loops: vec![0; loops],
+        heads: vec![0; heads],
+        rows: vec![0; rows],
+    }
 }
 
 pub fn run(pipe: &Pipe, settings: &Settings) -> Result<(), String> {
@@ -38,7 +54,7 @@ pub fn run(pipe: &Pipe, settings: &Settings) -> Result<(), String> {
             converse(pipe, &before(&mut random), &whole[..cut], &[CUT_SHORT])?;
         }
     }
-    for operation in [0, 6, 7, 127, 128, 255] {
+    for operation in [0, 7, 8, 127, 128, 255] {
         // What follows would be a good frame, but "after it nothing more is read".
         let mut bytes = vec![operation];
         bytes.extend(small_frames()[1].encode());
@@ -72,15 +88,22 @@ fn too_large() -> Vec<(Vec<u8>, &'static [u8])> {
         marks: vec![0; marks],
     };
     let check = |file, numbers| Request::Check { file: vec![0; file], numbers: vec![0; numbers] };
+    let write = |lists, out| Request::Write { content: content(lists), out: vec![0; out] };
     let whole = [
         trace(room::ACCESSES + 1, 0),
         trace(0, room::MARKS + 1),
         check(room::FILE + 1, 0),
         check(0, room::NUMBERS + 1),
+        write([room::NODES + 1, 0, 0, 0, 0], 0),
+        write([0, room::EDGES + 1, 0, 0, 0], 0),
+        write([0, 0, room::LOOPS + 1, 0, 0], 0),
+        write([0, 0, 0, room::HEADS + 1, 0], 0),
+        write([0, 0, 0, 0, room::ROWS + 1], 0),
+        write([0, 0, 0, 0, 0], room::OUT + 1),
     ];
     let mut frames: Vec<(Vec<u8>, &[u8])> = whole.iter().map(|frame| (frame.encode(), &[TOO_LARGE][..])).collect();
-    for (head, lengths) in [(&[4, 0, 1, 1][..], [0xff; 8]), (&[5], [0xff; 8])] {
-        frames.push(([head, &lengths].concat(), &[CUT_SHORT, TOO_LARGE]));
+    for (head, lengths) in [(&[4, 0, 1, 1][..], 8), (&[5], 8), (&[6, 0, 1, 1], 24)] {
+        frames.push(([head, &vec![0xff; lengths]].concat(), &[CUT_SHORT, TOO_LARGE]));
     }
     frames
 }
@@ -92,6 +115,11 @@ fn largest_frames(pipe: &Pipe) -> Result<(), String> {
         Request::Check { file: vec![7; room::FILE], numbers: vec![7; room::NUMBERS] },
         Request::Trace { policy: 0, ways: 1, sets: 1, blocks: Vec::new(), marks: Vec::new() },
         Request::Check { file: Vec::new(), numbers: Vec::new() },
+        Request::Write {
+            content: content([room::NODES, room::EDGES, room::LOOPS, room::HEADS, room::ROWS]),
+            out: vec![7; room::OUT],
+        },
+        Request::Write { content: content([0; 5]), out: Vec::new() },
     ];
     super::agree(pipe, &largest)?;
     println!("the largest and the smallest frames are answered");

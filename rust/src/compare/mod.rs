@@ -9,6 +9,7 @@ pub mod frames;
 pub mod gathering;
 mod kinds;
 pub mod walks;
+pub mod writes;
 
 use crate::pipe::{Answer, Pipe, Request};
 use crate::second;
@@ -33,6 +34,8 @@ pub struct Settings {
     pub graphs: usize,
     /// Small files that are walked through.
     pub walked: usize,
+    /// Contents that are written.
+    pub written: usize,
 }
 
 /// Asks `pipe` and the second simulator; the answers, if they are the same.
@@ -64,6 +67,7 @@ impl<'a> Comparison<'a> {
         self.weight += match &request {
             Request::Trace { blocks, marks, .. } => 2 * blocks.len() + marks.len(),
             Request::Check { file, numbers } => file.len() + 8 * numbers.len(),
+            Request::Write { content, out } => 2 * content.rows.len() + out.len(),
             _ => 32,
         };
         self.waiting.push(request);

@@ -1,6 +1,7 @@
 //! "No walk and no content misses more than is printed": walks through small files that `check` accepts, with the
 //! numbers that `check` wrote.
 
+use super::writes::all_again;
 use super::Settings;
 use crate::case::{judge, Bounds, Case, Draft, Paper, NUMBERS};
 use crate::generate::braids::braid;
@@ -35,6 +36,7 @@ pub fn run(pipe: &Pipe, settings: &Settings) -> Result<(), String> {
         let drafts: Vec<Draft> = (0..left.min(TOGETHER)).map(|_| small_file(&mut random)).collect();
         let checks: Vec<Request> =
             drafts.iter().map(|draft| Request::Check { file: draft.write(), numbers: vec![0; NUMBERS] }).collect();
+        all_again(pipe, &checks)?;
         // The numbers are taken as they come: here they are held against walks alone.
         for (draft, answer) in drafts.iter().zip(pipe.ask(&checks)?) {
             walk_through(&mut random, draft, &answer, &mut seen)?;

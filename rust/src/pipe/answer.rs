@@ -28,6 +28,10 @@ pub enum Body {
     Check {
         numbers: Vec<u64>,
     },
+    Write {
+        length: u64,
+        out: Vec<u8>,
+    },
 }
 
 /// "A frame that cannot be answered ends the conversation. Its answer is the byte 0, then one byte that says why, then
@@ -65,6 +69,7 @@ impl Body {
             Request::Set { .. } => Body::Set(take(rest)?),
             Request::Trace { marks, .. } => Body::Trace { misses: take(rest)?, marks: take_list(rest, marks.len())? },
             Request::Check { numbers, .. } => Body::Check { numbers: take_list(rest, numbers.len())? },
+            Request::Write { out, .. } => Body::Write { length: take(rest)?, out: take_list(rest, out.len())? },
         })
     }
 }

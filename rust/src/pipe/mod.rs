@@ -14,4 +14,11 @@ pub mod room {
     pub const MARKS: usize = 1_048_576;
     pub const FILE: usize = 4_300_000;
     pub const NUMBERS: usize = 4_096;
+    /// Numbers in the lists of a content, and lent bytes.
+    pub const NODES: usize = 4_096;
+    pub const EDGES: usize = 16_384;
+    pub const LOOPS: usize = 1_024;
+    pub const HEADS: usize = 2_048;
+    pub const ROWS: usize = 1_048_576;
+    pub const OUT: usize = 2_150_000;
 }

@@ -1,6 +1,7 @@
 //! "A request is one byte that names the operation, the arguments, and the lent memory as it is handed in."
 
 use crate::bytes::{put_list, Little};
+use crate::case::Content;
 use crate::machine::SetState;
 
 #[derive(Clone, Debug)]
@@ -10,6 +11,7 @@ pub enum Request {
     Set { block: u16, sets: u8 },
     Trace { policy: u8, ways: u8, sets: u8, blocks: Vec<u16>, marks: Vec<u8> },
     Check { file: Vec<u8>, numbers: Vec<u64> },
+    Write { content: Content, out: Vec<u8> },
 }
 
 impl Request {
@@ -20,6 +22,7 @@ impl Request {
             Request::Set { .. } => 3,
             Request::Trace { .. } => 4,
             Request::Check { .. } => 5,
+            Request::Write { .. } => 6,
         }
     }
 
@@ -39,20 +42,32 @@ impl Request {
             }
             Request::Trace { policy, ways, sets, blocks, marks } => {
                 put_list(&[*policy, *ways, *sets], &mut out);
-                put_lengths(blocks.len(), marks.len(), &mut out);
+                put_lengths([blocks.len(), marks.len()], &mut out);
                 put_list(blocks, &mut out);
                 out.extend_from_slice(marks);
             }
             Request::Check { file, numbers } => {
-                put_lengths(file.len(), numbers.len(), &mut out);
+                put_lengths([file.len(), numbers.len()], &mut out);
                 out.extend_from_slice(file);
                 put_list(numbers, &mut out);
+            }
+            Request::Write { content, out: lent } => {
+                let Content { policy, ways, sets, nodes, edges, loops, heads, rows } = content;
+                put_list(&[*policy, *ways, *sets], &mut out);
+                let lengths = [nodes.len(), edges.len(), loops.len(), heads.len(), rows.len(), lent.len()];
+                put_lengths(lengths, &mut out);
+                put_list(nodes, &mut out);
+                put_list(edges, &mut out);
+                put_list(loops, &mut out);
+                put_list(heads, &mut out);
+                put_list(rows, &mut out);
+                out.extend_from_slice(lent);
             }
         }
         out
     }
 }
 
-fn put_lengths(first: usize, second: usize, out: &mut Vec<u8>) {
-    put_list(&[first, second].map(|length| u32::try_from(length).expect("a frame's length has 32 bits")), out);
+fn put_lengths<const N: usize>(lengths: [usize; N], out: &mut Vec<u8>) {
+    put_list(&lengths.map(|length| u32::try_from(length).expect("a frame's length has 32 bits")), out);
 }

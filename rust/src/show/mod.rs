@@ -4,7 +4,7 @@ mod draft;
 
 pub use draft::{draft, state, story};
 
-use crate::case::Draft;
+use crate::case::{Content, Draft};
 use crate::pipe::{Answer, Body, Request};
 use crate::refusal::Refusal;
 
@@ -47,8 +47,20 @@ pub fn file(bytes: &[u8]) -> String {
 pub fn request(request: &Request) -> String {
     match request {
         Request::Check { file: bytes, numbers } => format!("check, {} numbers lent\n{}", numbers.len(), file(bytes)),
+        Request::Write { content, out } => format!("write, {} bytes lent\n{}", out.len(), lists(content)),
         other => format!("{}\n  the frame:\n{}", arguments(other), hex(&other.encode())),
     }
+}
+
+/// A content: its lists as records where they are whole, and as they were handed.
+fn lists(content: &Content) -> String {
+    let Content { policy, ways, sets, nodes, edges, loops, heads, rows } = content;
+    let records = match content.draft() {
+        Some(lists) => draft(&lists),
+        None => "  the lists are no whole records\n".to_string(),
+    };
+    let numbers = [words(nodes), words(edges), words(loops), words(heads), words(rows)].join("\n    ");
+    format!("{records}  the lists, policy {policy}, {ways} ways, {sets} sets:\n    {numbers}\n")
 }
 
 fn arguments(request: &Request) -> String {
@@ -86,6 +98,9 @@ fn memory(own: &Body, other: &Body) -> String {
             format!("misses: second simulator {misses}, pipe {others}; {}", first_difference(marks, other_marks))
         }
         (Body::Check { numbers }, Body::Check { numbers: others }) => first_difference(numbers, others),
+        (Body::Write { length, out }, Body::Write { length: other, out: others }) => {
+            format!("length: second simulator {length}, pipe {other}; {}", first_difference(out, others))
+        }
         _ => format!("second simulator {own:?}\n  pipe             {other:?}"),
     }
 }

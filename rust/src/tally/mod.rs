@@ -1,8 +1,8 @@
 //! How often each refusal was seen, and where.
 
-mod seconds;
+pub mod seconds;
 
-use crate::case::claimed_numbers;
+use crate::case::{claimed_numbers, Draft};
 use crate::pipe::{Answer, Body, Request};
 use seconds::Seconds;
 use std::collections::BTreeMap;
@@ -29,9 +29,11 @@ pub struct Tally {
 fn extent(request: &Request, number: u8) -> Option<(u64, u64)> {
     let [nodes, edges, loops, facts] = match request {
         Request::Trace { blocks, .. } if number == 21 => return Some((0, blocks.len() as u64)),
-        Request::Check { file, .. } => claimed_numbers(file)?.map(u64::from),
+        Request::Check { file, .. } => claimed_numbers(file)?,
+        Request::Write { content, .. } => content.numbers(),
         _ => return None,
-    };
+    }
+    .map(|number| number as u64);
     match number {
         6 | 8 | 9 => Some((0, edges)),
         7 => Some((0, loops)),
@@ -40,6 +42,15 @@ fn extent(request: &Request, number: u8) -> Option<(u64, u64)> {
         // The first fact has no previous one.
         13 => Some((1, facts)),
         11..=18 | 24 | 25 => Some((0, facts)),
+        _ => None,
+    }
+}
+
+/// The lists that the request is about, where they can be told apart.
+fn lists(request: &Request) -> Option<Draft> {
+    match request {
+        Request::Check { file, .. } => Draft::skim(file).ok(),
+        Request::Write { content, .. } => content.draft(),
         _ => None,
     }
 }
@@ -56,8 +67,9 @@ impl Tally {
                 _ => places.middle += 1,
             }
         }
-        if let (Request::Check { file, .. }, Some(refusal)) = (request, answer.refusal) {
-            self.seconds.add(file, refusal);
+        let two_places = answer.refusal.filter(|refusal| seconds::NUMBERS.contains(&refusal.number));
+        if let Some((refusal, draft)) = two_places.and_then(|refusal| Some((refusal, lists(request)?))) {
+            self.seconds.add(&draft, refusal);
         }
         if let (Request::Trace { blocks, .. }, None, Body::Trace { misses, .. }) =
             (request, answer.refusal, &answer.body)
@@ -90,7 +102,7 @@ impl Tally {
     pub fn demand(&self, operation: u8, numbers: impl IntoIterator<Item = u8>, at_least: u64) -> Result<(), String> {
         for number in numbers {
             let places = self.get(operation, number);
-            let placed = operation == 5 && matches!(number, 6..=18 | 24 | 25) || operation == 4 && number == 21;
+            let placed = matches!((operation, number), (5 | 6, 6..=18 | 24 | 25) | (4, 21));
             let fewest = places.first.min(places.middle).min(places.last);
             if places.count < at_least || placed && fewest * 10 < at_least {
                 return Err(format!(

@@ -1,11 +1,11 @@
 //! Second places: how often each refusal that has one was seen where another could have been told by mistake.
 
-use crate::case::Faults;
+use crate::case::{Draft, Faults};
 use crate::refusal::Refusal;
 use std::collections::BTreeMap;
 
 /// "Refusals: 16 and 18 add the least such node", and 17, 24 and 25 "add the edge".
-const NUMBERS: [u8; 5] = [16, 17, 18, 24, 25];
+pub const NUMBERS: [u8; 5] = [16, 17, 18, 24, 25];
 const OF_EDGES: [u8; 3] = [17, 24, 25];
 
 #[derive(Clone, Copy, Default)]
@@ -27,10 +27,9 @@ pub struct Seconds {
 }
 
 impl Seconds {
-    pub fn add(&mut self, file: &[u8], refusal: Refusal) {
+    pub fn add(&mut self, draft: &Draft, refusal: Refusal) {
         let number = refusal.number;
-        let has_second = NUMBERS.contains(&number);
-        let Some(faults) = has_second.then(|| Faults::of(file, refusal.place as usize)).flatten() else { return };
+        let Some(faults) = Faults::of(draft, refusal.place as usize) else { return };
         let of_edges = OF_EDGES.contains(&number);
         let alike = |other: &(u8, usize)| other.0 == number || of_edges && OF_EDGES.contains(&other.0);
         let first = if of_edges { faults.first_edge } else { faults.first_node };
@@ -51,9 +50,9 @@ impl Seconds {
         out
     }
 
-    /// Fails unless each number was seen often enough with each way to mistake its second place.
-    pub fn demand(&self, at_least: u64) -> Result<(), String> {
-        for number in NUMBERS {
+    /// Fails unless each of the numbers was seen often enough with each way to mistake its second place.
+    pub fn demand(&self, numbers: &[u8], at_least: u64) -> Result<(), String> {
+        for &number in numbers {
             let seen = self.seen.get(&number).copied().unwrap_or_default();
             let edges = if OF_EDGES.contains(&number) { seen.mixed.min(seen.before_18) } else { at_least };
             if seen.apart.min(seen.several).min(edges) < at_least {

@@ -1,6 +1,6 @@
 -- `frames::front`: parts that are put one after another are one text, the head and the value.
 use borrow.Author.Needs.{needs}
-use Rattle.print.proofs.Putting.{put-then}
+use Rattle.puts.proofs.Putting.{put-then}
 use Rattle.frames.specs.Frames.{head, front}
 use Rattle.frames.proofs.front.Statement.{statement}
 use Rattle.frames.proofs.front.Tie as tie

@@ -1,6 +1,6 @@
 -- `frames::last`: parts that are put one after another are one text, and it fills the bytes.
 use borrow.Author.Needs.{needs}
-use Rattle.print.proofs.Putting.{put-then}
+use Rattle.puts.proofs.Putting.{put-then}
 use Rattle.frames.specs.Frames.{lastFrame}
 use Rattle.frames.proofs.Answering.{put-all}
 use Rattle.frames.proofs.last.Statement.{statement}

@@ -2,8 +2,8 @@
 use native.Mathlib.Omega.{arith}
 use borrow.Author.Needs.{needs}
 use Rattle.paper.specs.Listings.{boundLines}
-use Rattle.print.specs.Put.{Fits}
-use Rattle.print.proofs.Putting.{first-fits, then-fits, put-then}
+use Rattle.puts.specs.Put.{Fits}
+use Rattle.puts.proofs.Putting.{first-fits, then-fits, put-then}
 use Rattle.listing.specs.Listed.{numberLines}
 use Rattle.listing.proofs.LongestListing.{numbers-length}
 use Rattle.listing.proofs.ListingTexts.{printed-whole}

@@ -4,7 +4,7 @@ use native.Mathlib.Nat.{sub-zero}
 use native.Mathlib.Omega.{arith}
 use borrow.Author.Needs.{needs}
 use Rattle.paper.specs.Listings.{linesFrom, linesTo}
-use Rattle.print.proofs.Putting.{Left, left-start, left-fits, left-more, left-end, first-fits}
+use Rattle.puts.proofs.Putting.{Left, left-start, left-fits, left-more, left-end, first-fits}
 use Rattle.listing.specs.Listed.{after}
 use Rattle.listing.proofs.Numbered.{next-line, no-line}
 use Rattle.listing.proofs.lines.Statement.{statement}

@@ -4,7 +4,7 @@ use native.Mathlib.Omega.{arith}
 use borrow.Author.Needs.{needs}
 use Rattle.paper.specs.Machines.{bitAt}
 use Rattle.paper.specs.Patterns.{binary}
-use Rattle.print.proofs.Putting.{Left, left-start, left-fits, left-more, left-end, put-one}
+use Rattle.puts.proofs.Putting.{Left, left-start, left-fits, left-more, left-end, put-one}
 use Rattle.patterns.proofs.PatternTexts.{binary-length, next-digit, no-digit}
 use Rattle.patterns.proofs.binary.Statement.{statement}
 use Rattle.patterns.proofs.binary.Tie as tie

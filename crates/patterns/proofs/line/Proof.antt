@@ -1,7 +1,7 @@
 -- `patterns::line`: each part fits because the whole line does, and put one after another they are it.
 use borrow.Author.Needs.{needs}
 use Rattle.paper.specs.Patterns.{patternLine}
-use Rattle.print.proofs.Putting.{first-fits, then-fits, put-then}
+use Rattle.puts.proofs.Putting.{first-fits, then-fits, put-then}
 use Rattle.patterns.proofs.line.Statement.{statement}
 use Rattle.patterns.proofs.line.Tie as tie
 

@@ -3,7 +3,7 @@ use Prim.Native.Nat.{_-_, _≤_}
 use native.Mathlib.Omega.{arith}
 use borrow.Author.Needs.{needs}
 use Rattle.paper.specs.Patterns.{patternsFrom, patterns}
-use Rattle.print.proofs.Putting.{Left, left-start, left-fits, left-more, left-end, first-fits}
+use Rattle.puts.proofs.Putting.{Left, left-start, left-fits, left-more, left-end, first-fits}
 use Rattle.patterns.proofs.PatternTexts.{patterns-length, next-pattern, no-pattern}
 use Rattle.patterns.proofs.lines.Statement.{statement}
 use Rattle.patterns.proofs.lines.Tie as tie

@@ -4,7 +4,7 @@ use borrow.Author.Needs.{needs}
 use Rattle.paper.specs.Machines.{marked}
 use Rattle.paper.specs.Listings.{bytes}
 use Rattle.paper.specs.Patterns.{binary, nextFrom}
-use Rattle.print.proofs.Putting.{Left, left-start, left-fits, left-more, left-end, first-fits, then-fits, put-then}
+use Rattle.puts.proofs.Putting.{Left, left-start, left-fits, left-more, left-end, first-fits, then-fits, put-then}
 use Rattle.patterns.proofs.PatternTexts.{at-entry, next-line, no-line, put-bits, fits-bits}
 use Rattle.patterns.proofs.next.Statement.{statement}
 use Rattle.patterns.proofs.next.Tie as tie

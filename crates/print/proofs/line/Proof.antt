@@ -1,7 +1,7 @@
 -- `print::line`: each part fits because the whole line does, and put one after another they are it.
 use borrow.Author.Needs.{needs}
 use Rattle.paper.specs.Listings.{line}
-use Rattle.print.proofs.Putting.{first-fits, then-fits, put-then}
+use Rattle.puts.proofs.Putting.{first-fits, then-fits, put-then}
 use Rattle.print.proofs.line.Statement.{statement}
 use Rattle.print.proofs.line.Tie as tie
 

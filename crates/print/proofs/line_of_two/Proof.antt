@@ -1,7 +1,7 @@
 -- `print::line_of_two`: each part fits because the whole line does, and put one after another they are it.
 use borrow.Author.Needs.{needs}
 use Rattle.paper.specs.Listings.{lineOfTwo}
-use Rattle.print.proofs.Putting.{first-fits, then-fits, put-then}
+use Rattle.puts.proofs.Putting.{first-fits, then-fits, put-then}
 use Rattle.print.proofs.line_of_two.Statement.{statement}
 use Rattle.print.proofs.line_of_two.Tie as tie
 

@@ -2,7 +2,7 @@
 use mathlib.Core.Path.{sym, _∙_}
 use borrow.Author.Needs.{needs}
 use Rattle.print.proofs.Decimals.{decimal-digits}
-use Rattle.print.proofs.Putting.{fits-as}
+use Rattle.puts.proofs.Putting.{fits-as}
 use Rattle.print.proofs.number.Statement.{statement}
 use Rattle.print.proofs.number.Tie as tie
 

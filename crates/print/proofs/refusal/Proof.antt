@@ -1,6 +1,6 @@
 -- `print::refusal` is its parts, one after another; together they have at most 71 bytes.
 use borrow.Author.Needs.{needs}
-use Rattle.print.proofs.Putting.{first-fits, then-fits, put-then}
+use Rattle.puts.proofs.Putting.{first-fits, then-fits, put-then}
 use Rattle.print.proofs.Lengths.{refusal-fits}
 use Rattle.print.proofs.refusal.Statement.{statement}
 use Rattle.print.proofs.refusal.Tie as tie

@@ -5,7 +5,7 @@ use native.Mathlib.Omega.{arith}
 use borrow.Author.Needs.{needs}
 use lib.ListN.{length, drop, length-drop, drop-of-length-le}
 use lib.Seq.{drop-cons}
-use Rattle.print.proofs.Putting.{Left, left-start, left-fits, left-more, left-end, put-one}
+use Rattle.puts.proofs.Putting.{Left, left-start, left-fits, left-more, left-end, put-one}
 use Rattle.print.proofs.word.Statement.{statement}
 use Rattle.print.proofs.word.Tie as tie
 

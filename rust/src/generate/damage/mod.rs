@@ -1,6 +1,7 @@
 //! Case files with faults that are each aimed at one rule. What they really earn is for the second simulator to say.
 
 mod bytes;
+mod content;
 mod facts;
 mod graph;
 mod layout;
@@ -9,6 +10,7 @@ use crate::case::{Draft, NUMBERS};
 use crate::random::Random;
 
 pub use bytes::scatter;
+pub use content::{spoil, stir, WRITTEN};
 
 /// Every rule that a check can find broken: 20 is about the lent list, and 17, 24 and 25 are of one place in the order.
 pub const RULES: [u8; 22] = [1, 2, 3, 4, 5, 6, 7, 8, 9, 10, 11, 12, 13, 14, 15, 16, 17, 24, 25, 18, 19, 20];

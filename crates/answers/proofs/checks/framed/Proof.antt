@@ -1,6 +1,6 @@
 -- `answers::checks::framed` puts the head and then the numbers, which fill the bytes from its place on.
 use borrow.Author.Needs.{needs}
-use Rattle.print.proofs.Putting.{put-then}
+use Rattle.puts.proofs.Putting.{put-then}
 use Rattle.frames.proofs.Answering.{answered-as, answered-whole}
 use Rattle.answers.proofs.Asking.{check-framed}
 use Rattle.answers.proofs.checks.framed.Statement.{statement}

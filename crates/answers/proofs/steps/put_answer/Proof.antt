@@ -1,6 +1,6 @@
 -- `answers::steps::put_answer`: parts that are put one after another are one text, and it fills the bytes.
 use borrow.Author.Needs.{needs}
-use Rattle.print.proofs.Putting.{put-then}
+use Rattle.puts.proofs.Putting.{put-then}
 use Rattle.frames.specs.Frames.{stepFrame}
 use Rattle.frames.specs.Places.{outcomeWidth}
 use Rattle.frames.proofs.Answering.{answered-as, answered-whole, front-same}

@@ -3,7 +3,7 @@ use Prim.Native.Nat.{_+_}
 use mathlib.Core.Path.{_≡_, refl}
 use borrow.Author.Needs.{needs}
 use lib.ListN.{length, length-set}
-use Rattle.print.proofs.Putting.{Left, left-start, left-more, left-end, put-one}
+use Rattle.puts.proofs.Putting.{Left, left-start, left-more, left-end, put-one}
 use Rattle.frames.specs.Little.{little}
 use Rattle.frames.proofs.Bytes.{next-byte, no-byte}
 use Rattle.frames.proofs.numbers.put.Statement.{statement}

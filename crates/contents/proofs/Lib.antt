@@ -1,0 +1,14 @@
+pub mod Spaced
+pub mod Standing
+pub mod Fields
+pub mod Trailers
+pub mod Kept
+pub mod SameCases
+pub mod Contents
+pub mod Written
+pub mod Rereading
+pub mod Rewriting
+pub mod Accepted
+pub mod FileBytes
+pub mod WriteLaws
+pub mod WriteNumbers

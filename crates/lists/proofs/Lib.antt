@@ -1,0 +1,5 @@
+pub mod Slots
+pub mod Turning
+pub mod Walk
+pub mod Wholes
+pub mod Same

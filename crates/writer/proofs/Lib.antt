@@ -1,0 +1,5 @@
+pub mod Words
+pub mod Joined
+pub mod Trailers
+pub mod Sizes
+pub mod Written
