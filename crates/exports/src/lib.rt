@@ -3,13 +3,7 @@
 ghost use Rattle.exports.specs.Calls.{CheckCall, WriteCall, TraceCall, StepCall, BlockCall, SetCall};
 use paper::Address;
 use paper::Block;
-use paper::BlockAnswer;
-use paper::Outcome;
-use paper::SetAnswer;
 use paper::SetState;
-use paper::TraceAnswer;
-use paper::Verdict;
-use paper::WriteAnswer;
 
 // The refusal's number, 0 where the file is accepted; `place` and `second` get the refusal's places, or 0.
 #[no_mangle]
@@ -21,18 +15,7 @@ pub extern "C" fn bolgverk_check(
 ) -> u8
     ensures { λ r. ⌜ CheckCall (now (file .entry)) (now (numbers .entry)) r (now (place .exit)) (now (second .exit)) (now (numbers .exit)) ⌝ }
 {
-    match bolgverk::check(file, numbers) {
-        Verdict::Accepted => {
-            *place = 0;
-            *second = 0;
-            0
-        }
-        Verdict::Refused(broken) => {
-            *place = broken.place as u64;
-            *second = broken.second as u64;
-            broken.number
-        }
-    }
+    telling::check(bolgverk::check(file, numbers), place, second)
 }
 
 // The refusal's number, or 0; `place` and `second` get the refusal's places, or 0; `length` gets the file's, where nothing is refused.
@@ -53,19 +36,8 @@ pub extern "C" fn bolgverk_write(
 ) -> u8
     ensures { λ r. ⌜ WriteCall policy ways sets (now (nodes .entry)) (now (edges .entry)) (now (loops .entry)) (now (heads .entry)) (now (rows .entry)) (now (out .entry)) (now (length .entry)) r (now (length .exit)) (now (place .exit)) (now (second .exit)) (now (out .exit)) ⌝ }
 {
-    match bolgverk::write(policy, ways, sets, nodes, edges, loops, heads, rows, out) {
-        WriteAnswer::Written(size) => {
-            *length = size as u64;
-            *place = 0;
-            *second = 0;
-            0
-        }
-        WriteAnswer::Refused(unfit) => {
-            *place = unfit.place as u64;
-            *second = unfit.second as u64;
-            unfit.number
-        }
-    }
+    let answer = bolgverk::write(policy, ways, sets, nodes, edges, loops, heads, rows, out);
+    telling::write(answer, length, place, second)
 }
 
 // The refusal's number, or 0; `place` gets the refusal's place, or 0; `misses` is written where nothing is refused.
@@ -81,17 +53,8 @@ pub extern "C" fn bolgverk_trace_run(
 ) -> u8
     ensures { λ r. ⌜ TraceCall policy ways sets (now (blocks .entry)) (now (marks .entry)) (now (misses .entry)) r (now (misses .exit)) (now (place .exit)) (now (marks .exit)) ⌝ }
 {
-    match bolgverk::trace_run(policy, ways, sets, blocks, marks) {
-        TraceAnswer::Misses(count) => {
-            *misses = count as u64;
-            *place = 0;
-            0
-        }
-        TraceAnswer::Refused(why) => {
-            *place = why.place as u64;
-            why.number
-        }
-    }
+    let answer = bolgverk::trace_run(policy, ways, sets, blocks, marks);
+    telling::trace_run(answer, misses, place)
 }
 
 // 0 for a hit, 1 for a miss, else the refusal's number; the state is changed in place, or left as it was.
@@ -115,11 +78,7 @@ pub extern "C" fn bolgverk_step(
     *lines = next;
     *bits = state.bits;
     let outcome = answer.outcome;
-    match outcome {
-        Outcome::Hit => 0,
-        Outcome::Miss => 1,
-        Outcome::Refused(why) => why.number,
-    }
+    telling::step(outcome)
 }
 
 // The refusal's number, or 0, and then `block` is the address's.
@@ -127,13 +86,7 @@ pub extern "C" fn bolgverk_step(
 pub extern "C" fn bolgverk_block_of(address: u32, line_size: u32, block: &mut u16) -> u8
     ensures { λ r. ⌜ BlockCall address «line_size» (now (block .entry)) r (now (block .exit)) ⌝ }
 {
-    match bolgverk::block_of(Address(address), line_size) {
-        BlockAnswer::Found(found) => {
-            *block = found.0;
-            0
-        }
-        BlockAnswer::Refused(why) => why.number,
-    }
+    telling::block_of(bolgverk::block_of(Address(address), line_size), block)
 }
 
 // The refusal's number, or 0, and then `set` is the block's.
@@ -141,11 +94,5 @@ pub extern "C" fn bolgverk_block_of(address: u32, line_size: u32, block: &mut u1
 pub extern "C" fn bolgverk_set_of(block: u16, sets: u8, set: &mut u8) -> u8
     ensures { λ r. ⌜ SetCall block sets (now (set .entry)) r (now (set .exit)) ⌝ }
 {
-    match bolgverk::set_of(Block(block), sets) {
-        SetAnswer::Found(found) => {
-            *set = found.0;
-            0
-        }
-        SetAnswer::Refused(why) => why.number,
-    }
+    telling::set_of(bolgverk::set_of(Block(block), sets), set)
 }

@@ -1,5 +1,4 @@
--- `exports::bolgverk_block_of` hands on what `bolgverk::block_of` answers: number and block.
-use mathlib.Core.Path.{refl}
+-- `exports::bolgverk_block_of` tells what `bolgverk::block_of` answers.
 use borrow.Author.Needs.{needs}
 use Rattle.exports.proofs.Calling.{block-call}
 use Rattle.exports.proofs.bolgverk_block_of.Statement.{statement}
@@ -7,16 +6,8 @@ use Rattle.exports.proofs.bolgverk_block_of.Tie as tie
 
 returns : tie.Need-returns
 returns c =
-    let e = c .before .before .before .block-of .ensures in
-    let told = c .before .found .given .1 in
-    block-call _ _ _ _ _ _ e (rw told refl) (rw told refl)
-
-returns-2 : tie.Need-returns-2
-returns-2 c =
-    let e = c .before .before .before .block-of .ensures in
-    let told = c .before .why .given .1 in
-    block-call _ _ _ _ _ _ e (rw told refl) (rw told refl)
+    let told = c .block-of2 .ensures in
+    block-call _ _ _ _ _ _ (c .before .before .block-of .ensures) (told .0) (told .1)
 
 pub bolgverk-block-of-spec : {M : Type 1} → statement M
-bolgverk-block-of-spec =
-    tie.close (tie.spec (λ c κs. search needs) (λ c. search needs) (λ c. search needs) returns returns-2)
+bolgverk-block-of-spec = tie.close (tie.spec (λ c κs. search needs) (λ c κs. search needs) returns)

@@ -1,5 +1,4 @@
--- `exports::bolgverk_trace_run` hands on what `bolgverk::trace_run` answers: number, place, misses and the lent bytes.
-use mathlib.Core.Path.{refl}
+-- `exports::bolgverk_trace_run` tells what `bolgverk::trace_run` answers.
 use borrow.Author.Needs.{needs}
 use Rattle.exports.proofs.Calling.{trace-call}
 use Rattle.exports.proofs.bolgverk_trace_run.Statement.{statement}
@@ -7,21 +6,8 @@ use Rattle.exports.proofs.bolgverk_trace_run.Tie as tie
 
 returns : tie.Need-returns
 returns c =
-    let e = c .before .before .before .before .before .trace-run .ensures in
-    let told = c .before .count .given .1 in
-    trace-call _ _ _ _ _ _ _ _ _ _ _ e (rw told refl) (rw told refl) (rw told refl)
-
-returns-2 : tie.Need-returns-2
-returns-2 c =
-    let e = c .before .before .before .before .before .trace-run .ensures in
-    let told = c .before .why .given .1 in
-    trace-call _ _ _ _ _ _ _ _ _ _ _ e (rw told refl) (rw told refl) (rw told refl)
+    let told = c .trace-run2 .ensures in
+    trace-call _ _ _ _ _ _ _ _ _ _ _ (c .before .before .before .before .before .trace-run .ensures) (told .0) (told .1 .1) (told .1 .0)
 
 pub bolgverk-trace-run-spec : {M : Type 1} → statement M
-bolgverk-trace-run-spec =
-    tie.close
-    (tie.spec
-    (λ c κs. search needs) (λ c. search needs) (λ c. search needs) (λ c. search needs)
-    returns
-    (λ c. search needs)
-    returns-2)
+bolgverk-trace-run-spec = tie.close (tie.spec (λ c κs. search needs) (λ c κs. search needs) (λ c. search needs) returns)

@@ -1,5 +1,4 @@
--- `exports::bolgverk_write` hands on what `bolgverk::write` answers: number, places, the file's length and the lent bytes.
-use mathlib.Core.Path.{refl}
+-- `exports::bolgverk_write` tells what `bolgverk::write` answers.
 use borrow.Author.Needs.{needs}
 use Rattle.exports.proofs.Calling.{write-call}
 use Rattle.exports.proofs.bolgverk_write.Statement.{statement}
@@ -7,21 +6,9 @@ use Rattle.exports.proofs.bolgverk_write.Tie as tie
 
 returns : tie.Need-returns
 returns c =
-    let e = c .before .before .before .before .before .write .ensures in
-    let told = c .before .size .given .1 in
-    write-call _ _ _ _ _ _ _ _ _ _ _ _ _ _ _ _ e (rw told refl) (rw told refl) (rw told refl) (rw told refl)
-
-returns-2 : tie.Need-returns-2
-returns-2 c =
-    let e = c .before .before .before .before .before .write .ensures in
-    let told = c .before .unfit .given .1 in
-    write-call _ _ _ _ _ _ _ _ _ _ _ _ _ _ _ _ e (rw told refl) (rw told refl) (rw told refl) (rw told refl)
+    let told = c .write2 .ensures in
+    let wrote = c .before .before .before in
+    write-call _ _ _ _ _ _ _ _ _ _ _ _ _ _ _ _ (wrote .before .before .before .write .ensures) (told .0) (told .1 .0) (told .1 .1 .0) (told .1 .1 .1)
 
 pub bolgverk-write-spec : {M : Type 1} → statement M
-bolgverk-write-spec =
-    tie.close
-    (tie.spec
-    (λ c κs. search needs) (λ c. search needs) (λ c. search needs) (λ c. search needs)
-    returns
-    (λ c. search needs)
-    returns-2)
+bolgverk-write-spec = tie.close (tie.spec (λ c κs. search needs) (λ c κs. search needs) (λ c. search needs) returns)

@@ -1,0 +1,105 @@
+// What a C caller is told of an answer: the number that is returned, and the numbers that are written through pointers.
+// A value is written only where nothing is refused; places are written always, 0 where nothing is refused.
+use paper::BlockAnswer;
+use paper::Outcome;
+use paper::SetAnswer;
+use paper::TraceAnswer;
+use paper::Verdict;
+use paper::WriteAnswer;
+ghost use mathlib.Core.Path.{_≡_};
+ghost use Rattle.paper.specs.Answers.{toldVerdict, toldTrace, toldOutcome, toldBlock, toldSet, toldWrite, valueOr};
+
+pub fn check(answer: Verdict, place: &mut u64, second: &mut u64) -> u8
+    ensures { λ r. ⌜ r ≡ toldVerdict answer .number ⌝ }
+    ensures { λ _. ⌜ now (place .exit) ≡ toldVerdict answer .place ⌝ }
+    ensures { λ _. ⌜ now (second .exit) ≡ toldVerdict answer .second ⌝ }
+{
+    match answer {
+        Verdict::Accepted => {
+            *place = 0;
+            *second = 0;
+            0
+        }
+        Verdict::Refused(broken) => {
+            *place = broken.place as u64;
+            *second = broken.second as u64;
+            broken.number
+        }
+    }
+}
+
+pub fn write(answer: WriteAnswer, length: &mut u64, place: &mut u64, second: &mut u64) -> u8
+    ensures { λ r. ⌜ r ≡ toldWrite answer .number ⌝ }
+    ensures { λ _. ⌜ now (length .exit) ≡ valueOr (now (length .entry)) (toldWrite answer) ⌝ }
+    ensures { λ _. ⌜ now (place .exit) ≡ toldWrite answer .place ⌝ }
+    ensures { λ _. ⌜ now (second .exit) ≡ toldWrite answer .second ⌝ }
+{
+    match answer {
+        WriteAnswer::Written(size) => {
+            *length = size as u64;
+            *place = 0;
+            *second = 0;
+            0
+        }
+        WriteAnswer::Refused(unfit) => {
+            *place = unfit.place as u64;
+            *second = unfit.second as u64;
+            unfit.number
+        }
+    }
+}
+
+pub fn trace_run(answer: TraceAnswer, misses: &mut u64, place: &mut u64) -> u8
+    ensures { λ r. ⌜ r ≡ toldTrace answer .number ⌝ }
+    ensures { λ _. ⌜ now (misses .exit) ≡ valueOr (now (misses .entry)) (toldTrace answer) ⌝ }
+    ensures { λ _. ⌜ now (place .exit) ≡ toldTrace answer .place ⌝ }
+{
+    match answer {
+        TraceAnswer::Misses(count) => {
+            *misses = count as u64;
+            *place = 0;
+            0
+        }
+        TraceAnswer::Refused(why) => {
+            *place = why.place as u64;
+            why.number
+        }
+    }
+}
+
+// 0 for a hit, 1 for a miss, else the refusal's number.
+pub fn step(outcome: Outcome) -> u8
+    ensures { λ r. ⌜ r ≡ valueOr (toldOutcome outcome .number) (toldOutcome outcome) ⌝ }
+{
+    match outcome {
+        Outcome::Hit => 0,
+        Outcome::Miss => 1,
+        Outcome::Refused(why) => why.number,
+    }
+}
+
+pub fn block_of(answer: BlockAnswer, block: &mut u16) -> u8
+    ensures { λ r. ⌜ r ≡ toldBlock answer .number ⌝ }
+    ensures { λ _. ⌜ now (block .exit) ≡ valueOr (now (block .entry)) (toldBlock answer) ⌝ }
+{
+    match answer {
+        BlockAnswer::Found(found) => {
+            *block = found.0;
+            0
+        }
+        BlockAnswer::Refused(why) => why.number,
+    }
+}
+
+pub fn set_of(answer: SetAnswer, set: &mut u8) -> u8
+    ensures { λ r. ⌜ r ≡ toldSet answer .number ⌝ }
+    ensures { λ _. ⌜ now (set .exit) ≡ valueOr (now (set .entry)) (toldSet answer) ⌝ }
+{
+    match answer {
+        SetAnswer::Found(found) => {
+            *set = found.0;
+            0
+        }
+        SetAnswer::Refused(why) => why.number,
+    }
+}
