@@ -1,5 +1,6 @@
 /* The content of the case file on standard input written again: by plain C, by the proved library, or not at all, so that the cost of reading it can be taken off.
- * usage: bench_write none|plain|proved < FILE      prints the refusal's number and places, the length, a sum over the bytes, and `same` where the file came out again */
+ * usage: bench_write none|plain|proved < FILE      prints the refusal's number and places, the length, a sum over the bytes, and `same` where the file came out again
+ *        bench_write again < FILE                  prints what the proved library writes, byte for byte; ends with the refusal's number */
 #include "plain.h"
 #include "sum.h"
 #include <bolgverk.h>
@@ -67,13 +68,16 @@ int main(int argc, char **argv)
     size_t length = fread(file, 1, sizeof file, stdin);
     const uint8_t *cache = length < TRAILER ? file : file + length - 8;
     uint8_t refused = 0;
+    int again = strcmp(argv[1], "again") == 0;
     read_lists(length);
     if (strcmp(argv[1], "plain") == 0)
         refused = plain_write(cache[0], cache[1], cache[2], nodes, node_count, edges, 2 * edge_count, loops, 3 * loop_count, heads, 4 * fact_count,
                               rows, 8 * row_count, out, sizeof out, &written, &place, &second);
-    else if (strcmp(argv[1], "proved") == 0)
+    else if (again || strcmp(argv[1], "proved") == 0)
         refused = bolgverk_write(cache[0], cache[1], cache[2], nodes, node_count, edges, 2 * edge_count, loops, 3 * loop_count, heads, 4 * fact_count,
                                  rows, 8 * row_count, out, sizeof out, &written, &place, &second);
+    if (again)
+        return fwrite(out, 1, written, stdout) == written ? refused : 255;
     /* Both sums are taken in every case, so that they can be taken off too. */
     uint64_t sum = sum_of(out, length), due = sum_of(file, length);
     int same = refused == 0 && written == length && sum == due;

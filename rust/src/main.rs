@@ -46,7 +46,7 @@ fn run(part: &str, options: &Options) -> Result<(), Failure> {
         "frames" => frames::run(pipe()?, settings),
         "files" => files::run(pipe()?, settings),
         "writes" => writes::run(pipe()?, settings),
-        "bounds" => bounds::run(program()?, settings),
+        "bounds" => bounds::run(program()?, pipe()?, settings),
         "evidence" => evidence::run(pipe()?, settings),
         "walks" => walks::run(pipe()?, settings),
         "must-break" => must_break::run(options.pipe.as_ref()),

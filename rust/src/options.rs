@@ -11,7 +11,7 @@ Compares the proved operations, over `pipe`, and the program `bounds` with the s
 parts:
   caches      trace runs, single steps, addresses, set numbers
   frames      frames that cannot be answered
-  files       case files, sound and damaged: verdicts, places and bounds; their contents written again
+  files       case files, sound and damaged: verdicts, places and bounds
   writes      contents, sound and damaged: the files that are written, and refusals
   bounds      what the program `bounds` prints for case files, sound, damaged and too long
   evidence    evidence exists exactly when it should
@@ -19,10 +19,13 @@ parts:
   must-break  wrong bounds, each with a file, a walk and a content that exceed it (`pipe` may be left out)
   search      looks for such files anew, with random walks (needs no `pipe`)
   all         all of these but search
+In each part but search every file that passes the layout rules is also taken apart, and the writer must make the same bytes of its lists again.
 
 options:
   --pipe 'PROGRAM ARGUMENT..'  how to start `pipe`; or give it behind --
   --bounds 'PROGRAM ARGUMENT..'  how to start `bounds`
+  --library 'PROGRAM ARGUMENT..'  how to start a program that writes the content of its input again by the library, as `bench_write again` does: for files
+                that `pipe` has no room for; without it these go by the second simulator alone
   --seed N      (1)
   --accesses N  accesses for each policy, number of ways and of sets (200000)
   --steps N     single steps for each policy and number of ways (10000)
@@ -50,6 +53,7 @@ pub fn read(arguments: impl Iterator<Item = String>) -> Result<Options, String> 
         graphs: 600,
         walked: 10_000,
         written: 10_000,
+        library: None,
     };
     let mut options = Options { settings, pipe: None, bounds: None, parts: Vec::new() };
     let mut rest = arguments;
@@ -58,6 +62,7 @@ pub fn read(arguments: impl Iterator<Item = String>) -> Result<Options, String> 
             "--" => options.pipe = start(rest.by_ref().collect()),
             "--pipe" => options.pipe = start(words(&value(&mut rest, &word)?)),
             "--bounds" => options.bounds = start(words(&value(&mut rest, &word)?)),
+            "--library" => options.settings.library = start(words(&value(&mut rest, &word)?)),
             _ if word.starts_with("--") => options.set(&word, &value(&mut rest, &word)?)?,
             _ => options.parts.push(word),
         }

@@ -1,5 +1,6 @@
 //! The program `bounds` itself, started anew for each file: what it prints, byte for byte.
 
+use super::again::Again;
 use super::Settings;
 use crate::case::{Draft, FactRecord, Lists, LoopRecord, Paper, Row, LARGEST};
 use crate::generate::cases::{sound, Plan};
@@ -7,7 +8,7 @@ use crate::generate::damage::{damage, scatter, RULES};
 use crate::listing::{listing, LONGEST_INPUT};
 use crate::machine::Shape;
 // A child process that is handed its input and read to its end: what talks to `pipe` starts `bounds` as well.
-use crate::pipe::Pipe as Program;
+use crate::pipe::{Pipe, Pipe as Program};
 use crate::random::Random;
 use crate::show;
 use std::collections::{BTreeMap, BTreeSet};
@@ -25,10 +26,12 @@ struct Seen {
     lines: usize,
 }
 
-pub fn run(bounds: &Program, settings: &Settings) -> Result<(), String> {
+pub fn run(bounds: &Program, pipe: &Pipe, settings: &Settings) -> Result<(), String> {
     let mut random = Random::for_part(settings.seed, "bounds");
+    let mut again = Again::new(pipe, settings.library.as_ref());
     let mut seen = Seen::default();
     for file in at_the_limits() {
+        again.add(&file)?;
         compare(bounds, &file, &mut seen)?;
     }
     for i in 0..settings.printed {
@@ -37,10 +40,12 @@ pub fn run(bounds: &Program, settings: &Settings) -> Result<(), String> {
             5 => scattered_file(&mut random),
             _ => damaged_file(&mut random, i / 10 * 4 + i % 10 - 6),
         };
+        again.add(&file)?;
         compare(bounds, &file, &mut seen)?;
     }
     seen.report(settings.printed);
-    seen.demand()
+    seen.demand()?;
+    again.finish()
 }
 
 /// Starts the program on the file, and holds what it prints to the second simulator's listing.

@@ -1,7 +1,7 @@
 //! Evidence exists exactly when it should: on small graphs, for each block, scope and limit.
 
+use super::again::Again;
 use super::gathering::{gather, Gathered};
-use super::writes::all_again;
 use super::{agree, Settings};
 use crate::case::{Draft, FactRecord, Graph, Lists, Row, Scope, NUMBERS};
 use crate::generate::cases::{sound, Plan};
@@ -66,11 +66,13 @@ impl Tried<Draft> {
 
 pub fn run(pipe: &Pipe, settings: &Settings) -> Result<(), String> {
     let mut random = Random::for_part(settings.seed, "evidence");
+    let mut again = Again::new(pipe, settings.library.as_ref());
     let mut counts = BTreeMap::new();
     let mut left = settings.graphs;
     while left > 0 {
         let graphs = left.min(TOGETHER);
         let trials: Vec<Tried<Draft>> = (0..graphs).flat_map(|_| trials(&mut random)).collect();
+        trials.iter().try_for_each(|tried| again.add(&tried.rows.write()))?;
         try_all(pipe, &trials, &mut counts)?;
         left -= graphs;
     }
@@ -78,7 +80,7 @@ pub fn run(pipe: &Pipe, settings: &Settings) -> Result<(), String> {
     let all = [Trial::Exact, Trial::TooMany, Trial::Shrunk, Trial::Hopeless];
     match all.iter().find(|trial| counts.get(trial).copied().unwrap_or(0) == 0) {
         Some(trial) => Err(format!("no trial of kind {trial:?}")),
-        None => Ok(()),
+        None => again.finish(),
     }
 }
 
@@ -86,7 +88,6 @@ fn try_all(pipe: &Pipe, trials: &[Tried<Draft>], counts: &mut BTreeMap<Trial, u6
     let check = |tried: &Tried<Draft>| Request::Check { file: tried.rows.write(), numbers: vec![1; NUMBERS] };
     let requests: Vec<Request> = trials.iter().map(check).collect();
     let answers = agree(pipe, &requests)?;
-    all_again(pipe, &requests)?;
     for (tried, answer) in trials.iter().zip(answers) {
         if !tried.met_by(answer.refusal) {
             let file = show::file(&tried.rows.write());

@@ -1,8 +1,8 @@
-//! Case files, sound and damaged: verdict, place, all 321 numbers and the untouched memory; and their contents written
-//! again.
+//! Case files, sound and damaged: verdict, place, all 321 numbers and the untouched memory.
 
+use super::again::Again;
 use super::kinds::Kinds;
-use super::{borders, writes, Comparison, Settings};
+use super::{borders, Comparison, Settings};
 use crate::case::{Paper, NUMBERS};
 use crate::generate::cases::{sound, Plan};
 use crate::generate::damage::{damage, scatter, RULES};
@@ -16,63 +16,57 @@ const AT_LEAST: u64 = 50;
 pub fn run(pipe: &Pipe, settings: &Settings) -> Result<(), String> {
     let mut random = Random::for_part(settings.seed, "files");
     let mut comparison = Comparison::new(pipe);
+    let mut again = Again::new(pipe, settings.library.as_ref());
     let mut kinds = Kinds::default();
     for draft in borders::drafts() {
-        let request = check(&mut random, draft.write(), NUMBERS + 3);
-        both_ways(&mut comparison, request)?;
+        let file = draft.write();
+        again.add(&file)?;
+        comparison.add(check(&mut random, file, NUMBERS + 3))?;
     }
     for i in 0..settings.files {
-        let request = match i % 20 {
+        let (file, numbers) = match i % 20 {
             0..=8 => sound_file(&mut random, &mut kinds),
             9 | 10 => scattered_file(&mut random),
             _ => damaged_file(&mut random, i / 20),
         };
-        both_ways(&mut comparison, request)?;
+        again.add(&file)?;
+        comparison.add(check(&mut random, file, numbers))?;
     }
     comparison.flush()?;
     kinds.report();
     let tally = &comparison.tally;
     println!("case files, {} and some at the limits, by refusal:\n{}", settings.files, tally.table(5));
-    println!("of these, written again as the same bytes: {}", tally.get(6, 0).count);
     println!("second places: apart from the number in the scope, one of several, of several rules, before an 18:");
     println!("{}", tally.seconds.table());
     tally.demand(5, RULES.into_iter().chain([0]), AT_LEAST)?;
-    tally.seconds.demand(&seconds::NUMBERS, AT_LEAST / 5)
+    tally.seconds.demand(&seconds::NUMBERS, AT_LEAST / 5)?;
+    again.finish()
 }
 
-/// The check; and the file's content written again, if it passes the layout rules.
-fn both_ways(comparison: &mut Comparison, request: Request) -> Result<(), String> {
-    let again = match &request {
-        Request::Check { file, .. } => writes::again(file)?,
-        _ => None,
-    };
-    comparison.add(request)?;
-    again.map_or(Ok(()), |written| comparison.add(written))
-}
+/// A file, and how many numbers are lent with it.
+type Asked = (Vec<u8>, usize);
 
 /// A lent list with noise in it.
 fn check(random: &mut Random, file: Vec<u8>, numbers: usize) -> Request {
     Request::Check { file, numbers: random.noise(numbers, |number| number) }
 }
 
-fn sound_file(random: &mut Random, kinds: &mut Kinds) -> Request {
+fn sound_file(random: &mut Random, kinds: &mut Kinds) -> Asked {
     let plan = if random.below(400) == 0 { Plan::large(random) } else { Plan::any(random) };
     let draft = sound(random, &plan, &Paper);
     kinds.add(&draft);
-    let room = NUMBERS + random.pick(&[0, 0, 1, 7, 40]);
-    check(random, draft.write(), room)
+    (draft.write(), NUMBERS + random.pick(&[0, 0, 1, 7, 40]))
 }
 
-fn scattered_file(random: &mut Random) -> Request {
+fn scattered_file(random: &mut Random) -> Asked {
     let plan = Plan::any(random);
     let mut file = sound(random, &plan, &Paper).write();
     scatter(random, &mut file);
-    let room = NUMBERS + random.below(3);
-    check(random, file, room)
+    (file, NUMBERS + random.below(3))
 }
 
 /// A fault, or two so that their order shows, in a file that has room for them at first, middle and last places.
-fn damaged_file(random: &mut Random, turn: usize) -> Request {
+fn damaged_file(random: &mut Random, turn: usize) -> Asked {
     let plan = Plan::roomy(random);
     let draft = (0..20)
         .map(|_| sound(random, &plan, &Paper))
@@ -82,6 +76,5 @@ fn damaged_file(random: &mut Random, turn: usize) -> Request {
     let far = random.pick(&RULES);
     let other = random.pick(&[rule, rule, near, far]);
     let rules = if other == rule { vec![rule] } else { vec![rule, other] };
-    let (file, numbers) = damage(random, &draft, &rules);
-    check(random, file, numbers)
+    damage(random, &draft, &rules)
 }

@@ -1,5 +1,6 @@
 //! The comparisons: the same requests to `pipe` and to the second simulator, until an answer differs.
 
+pub mod again;
 pub mod borders;
 pub mod bounds;
 pub mod caches;
@@ -36,6 +37,8 @@ pub struct Settings {
     pub walked: usize,
     /// Contents that are written.
     pub written: usize,
+    /// A program that writes the content of its input again by the library: for files that `pipe` has no room for.
+    pub library: Option<Pipe>,
 }
 
 /// Asks `pipe` and the second simulator; the answers, if they are the same.

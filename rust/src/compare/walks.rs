@@ -1,7 +1,7 @@
 //! "No walk and no content misses more than is printed": walks through small files that `check` accepts, with the
 //! numbers that `check` wrote.
 
-use super::writes::all_again;
+use super::again::Again;
 use super::Settings;
 use crate::case::{judge, Bounds, Case, Draft, Paper, NUMBERS};
 use crate::generate::braids::braid;
@@ -30,13 +30,14 @@ struct Seen {
 
 pub fn run(pipe: &Pipe, settings: &Settings) -> Result<(), String> {
     let mut random = Random::for_part(settings.seed, "walks");
+    let mut again = Again::new(pipe, settings.library.as_ref());
     let mut seen = Seen::default();
     let mut left = settings.walked;
     while left > 0 {
         let drafts: Vec<Draft> = (0..left.min(TOGETHER)).map(|_| small_file(&mut random)).collect();
+        drafts.iter().try_for_each(|draft| again.add(&draft.write()))?;
         let checks: Vec<Request> =
             drafts.iter().map(|draft| Request::Check { file: draft.write(), numbers: vec![0; NUMBERS] }).collect();
-        all_again(pipe, &checks)?;
         // The numbers are taken as they come: here they are held against walks alone.
         for (draft, answer) in drafts.iter().zip(pipe.ask(&checks)?) {
             walk_through(&mut random, draft, &answer, &mut seen)?;
@@ -45,7 +46,7 @@ pub fn run(pipe: &Pipe, settings: &Settings) -> Result<(), String> {
     }
     println!("walks: {} through {} files, {} visits, {} misses", seen.walks, seen.files, seen.visits, seen.misses);
     println!("  of {} bounds (totals, sets and facts) {} were reached and none exceeded", seen.numbers, seen.reached);
-    Ok(())
+    again.finish()
 }
 
 fn small_file(random: &mut Random) -> Draft {

@@ -1,11 +1,11 @@
-//! The writer: contents, sound and damaged, and "any file that passes them comes out again byte for byte when its content
-//! is written".
+//! The writer: contents, sound and damaged. What it writes "passes them and reads back as the same lists".
 
-use super::{agree, borders, Comparison, Settings};
+use super::again::{fits, Again};
+use super::{borders, Comparison, Settings};
 use crate::case::{read_content, write, Content, Draft, Paper, NUMBERS};
 use crate::generate::cases::{sound, Plan};
 use crate::generate::damage::{damage, spoil, stir, RULES, WRITTEN};
-use crate::pipe::{room, Pipe, Request};
+use crate::pipe::{Pipe, Request};
 use crate::random::Random;
 use crate::show;
 
@@ -22,9 +22,9 @@ fn others() -> Vec<u8> {
 
 pub fn run(pipe: &Pipe, settings: &Settings) -> Result<(), String> {
     let mut random = Random::for_part(settings.seed, "writes");
-    let mut comparison = Comparison::new(pipe);
+    let mut writing = Writing { contents: Comparison::new(pipe), files: Again::new(pipe, settings.library.as_ref()) };
     for draft in borders::drafts() {
-        written(&mut random, &mut comparison, Content::of(&draft), false)?;
+        writing.add(&mut random, Content::of(&draft), false)?;
     }
     for i in 0..settings.written {
         let draft = any_draft(&mut random);
@@ -34,10 +34,18 @@ pub fn run(pipe: &Pipe, settings: &Settings) -> Result<(), String> {
             3 => stirred(&mut random, &draft),
             _ => spoil(&mut random, &draft, &rules),
         };
-        written(&mut random, &mut comparison, content, i % 8 > 3 && rules.contains(&20))?;
+        writing.add(&mut random, content, i % 8 > 3 && rules.contains(&20))?;
     }
-    comparison.flush()?;
-    report(&comparison, settings.written)
+    let Writing { mut contents, files } = writing;
+    contents.flush()?;
+    report(&contents, settings.written)?;
+    files.finish()
+}
+
+/// Contents that are written, and the files that come of them.
+struct Writing<'a> {
+    contents: Comparison<'a>,
+    files: Again<'a>,
 }
 
 fn report(comparison: &Comparison, contents: usize) -> Result<(), String> {
@@ -81,47 +89,22 @@ fn stirred(random: &mut Random, draft: &Draft) -> Content {
     content
 }
 
-/// Has the content written, into too few bytes where asked. What comes out must read back as the same lists, and is checked.
-fn written(random: &mut Random, comparison: &mut Comparison, content: Content, short: bool) -> Result<(), String> {
-    let whole = content.draft().map_or(200, |draft| draft.write().len());
-    let lent = if short { random.pick(&[0, 1, whole / 2, whole - 1]) } else { whole + random.pick(&[0, 0, 1, 40]) };
-    let mut out = random.noise(lent, |number| number as u8);
-    if fits(&content, lent) {
-        comparison.add(Request::Write { content: content.clone(), out: out.clone() })?;
-    }
-    let Ok(length) = write(&content, &mut out) else { return Ok(()) };
-    out.truncate(length);
-    if read_content(&out) != Ok(content) {
-        return Err(format!("what is written does not read back as the same lists\n{}", show::file(&out)));
-    }
-    comparison.add(Request::Check { file: out, numbers: random.noise(NUMBERS, |number| number) })
-}
-
-/// "A write has at most 1,048,576 numbers in rows and at most 2,150,000 lent bytes": the largest files are written by the
-/// library alone.
-fn fits(content: &Content, lent: usize) -> bool {
-    content.rows.len() <= room::ROWS && lent <= room::OUT
-}
-
-/// The content of a file that passes the layout rules, to be written again: it must come out as the same file. A third of
-/// the lent lists is as long as the file, the others are longer.
-pub fn again(file: &[u8]) -> Result<Option<Request>, String> {
-    let Ok(content) = read_content(file) else { return Ok(None) };
-    let mut out = vec![0; file.len()];
-    if write(&content, &mut out) != Ok(file.len()) || out != file {
-        return Err(format!("the file does not come out again\n{}", show::file(file)));
-    }
-    let lent = file.len() + file.len() / 2 % 3;
-    Ok(fits(&content, lent).then(|| Request::Write { content, out: vec![165; lent] }))
-}
-
-/// The same for all files that were checked, over the pipe.
-pub fn all_again(pipe: &Pipe, checks: &[Request]) -> Result<(), String> {
-    let mut writes = Vec::new();
-    for request in checks {
-        if let Request::Check { file, .. } = request {
-            writes.extend(again(file)?);
+impl Writing<'_> {
+    /// Has the content written, into too few bytes where asked. What comes out must read back as the same lists, and is
+    /// checked and written again.
+    fn add(&mut self, random: &mut Random, content: Content, short: bool) -> Result<(), String> {
+        let whole = content.draft().map_or(200, |draft| draft.write().len());
+        let lent = if short { random.pick(&[0, 1, whole / 2, whole - 1]) } else { whole + random.pick(&[0, 0, 1, 40]) };
+        let mut out = random.noise(lent, |number| number as u8);
+        if fits(&content, lent) {
+            self.contents.add(Request::Write { content: content.clone(), out: out.clone() })?;
         }
+        let Ok(length) = write(&content, &mut out) else { return Ok(()) };
+        out.truncate(length);
+        if read_content(&out) != Ok(content) {
+            return Err(format!("what is written does not read back as the same lists\n{}", show::file(&out)));
+        }
+        self.files.add(&out)?;
+        self.contents.add(Request::Check { file: out, numbers: random.noise(NUMBERS, |number| number) })
     }
-    agree(pipe, &writes).map(|_| ())
 }

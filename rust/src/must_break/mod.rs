@@ -8,6 +8,7 @@ mod wrong;
 pub use search::search;
 
 use crate::case::{judge, Case, Draft, Paper, Rules, NUMBERS};
+use crate::compare::again::Again;
 use crate::compare::agree;
 use crate::machine::{legal, SetState};
 use crate::pipe::{Pipe, Request};
@@ -27,15 +28,21 @@ pub struct Wrong {
     pub rules: &'static dyn Rules,
 }
 
-/// Shows the fixed breaks; with `pipe`, also that `check` gives the right numbers on them.
+/// Shows the fixed breaks; with `pipe`, also that `check` gives the right numbers on them, and that they come out again.
 pub fn run(pipe: Option<&Pipe>) -> Result<(), String> {
     for (wrong, found) in wrong::ALL.iter().zip(fixed::all()) {
         println!("{}", examine(wrong, &found).map_err(|fault| format!("{}: {fault}", wrong.name))?);
-        if let Some(pipe) = pipe {
-            agree(pipe, &[Request::Check { file: found.draft.write(), numbers: vec![0; NUMBERS] }])?;
-        }
     }
-    Ok(())
+    pipe.map_or(Ok(()), through)
+}
+
+fn through(pipe: &Pipe) -> Result<(), String> {
+    let mut again = Again::new(pipe, None);
+    for file in fixed::all().map(|found| found.draft.write()) {
+        again.add(&file)?;
+        agree(pipe, &[Request::Check { file, numbers: vec![0; NUMBERS] }])?;
+    }
+    again.finish()
 }
 
 /// The break's story, if it is one: the wrong rule accepts the file and the walk exceeds the wrong number; the paper
