@@ -8,6 +8,8 @@ pub mod PolicyLaws
 pub mod Meaning
 pub mod RuleLaws
 pub mod Before
+pub mod Reach
+pub mod Reached
 pub mod GraphLaws
 pub mod RowLaws
 pub mod FactLaws
