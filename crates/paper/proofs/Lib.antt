@@ -1,4 +1,5 @@
 pub mod Least
+pub mod Climbs
 pub mod Says
 pub mod Sums
 pub mod TableLaws
