@@ -1,4 +1,4 @@
--- What the tests of the rules 6 to 10 and 26 say, and that a graph that passes them is sound.
+-- What the tests of the rules 6 to 10 say, and that a graph that passes them and 26 is sound.
 use Prim.Native.Nat.{ℕ, zero, suc, _-_, _≤_, _<_}
 use native.Mathlib.Omega.{arith}
 use native.Mathlib.Decide.{ℕ-discrete, decLe}

@@ -11,6 +11,7 @@ pub mod RuleLaws
 pub mod Before
 pub mod Reach
 pub mod Reached
+pub mod DeadPlaces
 pub mod GraphLaws
 pub mod RowLaws
 pub mod FactLaws

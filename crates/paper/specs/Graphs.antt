@@ -62,7 +62,7 @@ module _ (e : Case) where
   unfoldable pub joined : ℕ → ℕ → Bool
   joined u v = some (λ i. eqb (e .from i) u && eqb (e .to i) v) (e .edges)
 
-  -- Edges lead from u to v past no nodes but those below k: past no node k - 1, or first to it and then from it.
+  -- Edges lead from u to v past no nodes but those below a number. Past those below suc k: past those below k alone, or first to node k and then on from it.
   unfoldable pub leads : ℕ → ℕ → ℕ → Bool
   leads zero u v = joined u v
   leads (suc k) u v = leads k u v || (leads k u k && leads k k v)

@@ -56,7 +56,7 @@ loop-again c =
       omega arith,
       ⊎-elim (λ m. ap length (m .1) ∙ length-set (o .table) _ 1 ∙ o .inv .1) (λ m. ap length (m .1) ∙ o .inv .1) (c .if2 .came),
       ⊎-elim
-          (λ m. rw (m .1) (marks-more _ _ _ _ _ (o .inv .2) from to (ends d .0) (m .0 .taken) (ends d .1)))
+          (λ m. rw (m .1) (marks-more _ _ _ _ _ (o .inv .2) from to (ends d .0) (omega (arith, m .0 .taken)) (ends d .1)))
           (λ m. rw (m .1) (marks-same _ _ _ _ _ (o .inv .2) from to (ends d .0) (m .0 .left)))
           (c .if2 .came),
     )
