@@ -30,14 +30,14 @@ bit-true false h = absurd (omega arith)
 
 module _ (e : Case) (table : List ℕ) where
   -- node 0 alone
-  pub marks-start : (old : List ℕ) → 1 ≤ e .nodes → e .nodes ≤ length old → Filled old table 0 (e .nodes) 0 → Marks e 0 (set table 0 1)
-  marks-start old h r w =
+  pub marks-start : (old : List ℕ) (x : ℕ) → x ≡ 1 → 1 ≤ e .nodes → e .nodes ≤ length old → Filled old table 0 (e .nodes) 0 → Marks e 0 (set table 0 x)
+  marks-start old x one h r w =
       record {
-        room = omega (arith, w .same, length-set table 0 1);
+        room = omega (arith, w .same, length-set table 0 x);
         at = λ v l.
             elim (ℕ-discrete v 0) [
-              | yes p ↦ rw (says-is (first-says e v) p, p) (getD-set-same table 0 1 0 (omega (arith, w .same)))
-              | no n ↦ rw (says-false (first-says e v) .1 n) (getD-set-other table 0 v 1 0 n ∙ w .within v (omega arith) l)
+              | yes p ↦ rw (says-is (first-says e v) p, p) (getD-set-same table 0 x 0 (omega (arith, w .same)) ∙ one)
+              | no n ↦ rw (says-false (first-says e v) .1 n) (getD-set-other table 0 v x 0 n ∙ w .within v (omega arith) l)
             ];
       }
 

@@ -35,7 +35,7 @@ unfolding caseOf
 loop-holds c =
     let f = c .before .before in
     let p = start f .pre in
-    (omega arith, refl, marks-start _ _ _ (p .0 .nodes-low) (omega (arith, p .0 .nodes-high, p .1 .1)) (f .fill .ensures))
+    (omega arith, refl, marks-start _ _ _ _ (omega arith) (p .0 .nodes-low) (omega (arith, p .0 .nodes-high, p .1 .1)) (f .fill .ensures))
 
 -- the ends of the edge are nodes, and all nodes have their place
 ends : (d : tie.After-to-at Inv-loop μ-loop) →
