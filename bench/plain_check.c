@@ -145,6 +145,18 @@ static unsigned check_returns(struct check *c)
     return 0;
 }
 
+/* Rule 26: forward edges alone lead to every node that is reached, by rules 8 and 9, and those to a node come before those that leave it. */
+static unsigned check_reached(struct check *c)
+{
+    uint8_t reached[MOST_NODES] = {1};
+    for (unsigned i = 0; i < c->edges; i++)
+        reached[edge_to(c, i)] |= reached[edge_from(c, i)];
+    for (unsigned v = 0; v < c->nodes; v++)
+        if (!reached[v])
+            return refuse(c, 26, v);
+    return 0;
+}
+
 static inline uint64_t count_of(const struct check *c, unsigned node)
 {
     unsigned l = c->innermost[node];
@@ -384,6 +396,8 @@ static unsigned check_graph(struct check *c)
     number = check_entries(c);
     if (number == 0)
         number = check_returns(c);
+    if (number == 0)
+        number = check_reached(c);
     return number != 0 ? number : check_counts(c);
 }
 

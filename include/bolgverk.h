@@ -29,8 +29,8 @@ extern "C" {
  *                            bound of fact i, 0 where there is no such set or fact; numbers past the 321st stay as they are
  *   place                    gets the refusal's place, 0 if the file is accepted; always written
  *   second                   gets the refusal's second place: for 16 and 18 the node, for 17, 24 and 25 the edge, else 0; always written
- * Returns 0 if the file is accepted, else the refusal's number: 20 first, then 1 to 10, then 11 to 18 fact by fact (24 and 25 together
- * with 17, by the least edge), then 19. */
+ * Returns 0 if the file is accepted, else the refusal's number: 20 first, then 1 to 10 (26 after 9), then 11 to 18 fact by fact (24
+ * and 25 together with 17, by the least edge), then 19. */
 uint8_t bolgverk_check(const uint8_t *file, size_t file_length, uint64_t *numbers, size_t numbers_length, uint64_t *place, uint64_t *second);
 
 /* Writes a case file from lists. It does not sort: what a layout rule forbids it refuses. What it writes passes those rules and reads back
@@ -113,6 +113,7 @@ uint8_t bolgverk_set_of(uint16_t block, uint8_t sets, uint8_t *set);
  *   23  the line size is none of 8, 16, 32, 64, 128                                                          0              0
  *   24  row 9 ("not since b") follows a fetch of the fact's block                                            fact           edge
  *   25  row 8 ("many") is followed by another row                                                            fact           edge
+ *   26  a node other than 0 that no edges lead to from node 0                                                node           0
  */
 
 #ifdef __cplusplus

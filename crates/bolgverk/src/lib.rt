@@ -40,7 +40,7 @@ pub fn trace_run(policy: u8, ways: u8, sets: u8, blocks: &[u16], marks: &mut [u8
     trace::trace_run(policy, ways, sets, blocks, marks)
 }
 
-// "The check tests 20 first, then 1 to 10 in order, each over the whole file; then for each fact in turn 11 to 18; then 19."
+// "The check tests 20 first, then 1 to 10 in order, each over the whole file; then for each fact in turn 11 to 18; then 19." And 26 "after 9 and before 10".
 pub fn check(file: &[u8], numbers: &mut [u64]) -> Verdict
     ensures { λ r. ⌜ CheckPromise (now (file .entry)) (now (numbers .entry)) r (now (numbers .exit)) ⌝ }
 {

@@ -7,7 +7,7 @@ use Rattle.paper.specs.declared.Trailer.{Trailer}
 use Rattle.paper.specs.Files.{fromAt, caseOf}
 use Rattle.paper.specs.Known.{Shaped}
 use Rattle.evidence.specs.Edges.{Splits}
-use Rattle.evidence.proofs.Climbs.{climbs}
+use Rattle.paper.proofs.Climbs.{climbs}
 
 module _ (f : List ℕ) (trailer : Trailer) (v : ℕ) where
   pub halves-start : Splits f trailer v 0 (trailer .edges)

@@ -1,4 +1,3 @@
-pub mod Climbs
 pub mod Scopes
 pub mod Slots
 pub mod Sets

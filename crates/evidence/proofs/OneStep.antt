@@ -24,7 +24,7 @@ use Rattle.evidence.specs.declared.Head.{Head}
 use Rattle.evidence.specs.Stands.{Stands, factOf}
 use Rattle.evidence.specs.Edges.{Splits, From}
 use Rattle.evidence.specs.RowParts.{breaksAt}
-use Rattle.evidence.proofs.Climbs.{climbs}
+use Rattle.paper.proofs.Climbs.{climbs}
 
 -- node v is not one of a to z
 abbrev pub out : ℕ → ℕ → ℕ → Bool

@@ -24,7 +24,7 @@ use Rattle.evidence.specs.declared.Head.{Head}
 use Rattle.evidence.specs.Stands.{Stands, factOf}
 use Rattle.evidence.specs.RowParts.{missing, forgets}
 use Rattle.evidence.proofs.Scopes.{home-is}
-use Rattle.evidence.proofs.Climbs.{climbs}
+use Rattle.paper.proofs.Climbs.{climbs}
 
 -- the block x of node u, where u fetches one of b's set
 module _ (f : List ℕ) (trailer : Trailer) (h : Head) (a : Stands f trailer h) (x : ℕ) (s : Row) where

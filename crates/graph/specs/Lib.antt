@@ -1,2 +1,3 @@
 pub mod Marks
 pub mod Filled
+pub mod Reaching

@@ -1,32 +1,16 @@
 // Rule 10: the counts.
 ghost use mathlib.Core.Path.{_≡_};
 ghost use Prim.Native.Nat.{_≤_};
-ghost use lib.Dec.{eqb};
-ghost use lib.ListN.{length, getD};
+ghost use lib.ListN.{length};
 ghost use Rattle.paper.specs.Lists.{least};
 ghost use Rattle.paper.specs.Graphs as Graphs;
 ghost use Rattle.paper.specs.Ceilings.{mostNodes};
 ghost use Rattle.paper.specs.Files.{caseOf};
 ghost use Rattle.paper.specs.Known.{Laid, Shaped};
 ghost use Rattle.layout.specs.Counted.{Counted};
+use crate::marks::first_zero;
 use crate::marks::mark_nodes;
 use paper::Trailer;
-
-// The least node whose count is too large, or their number.
-fn first_zero(trailer: Trailer, table: &[u32]) -> u16
-    requires { ⌜ trailer .nodes ≤ length (now table) ⌝ }
-    ensures { λ r. ⌜ r ≡ least (λ v. eqb (getD (now (table .entry)) v 0) 0) (trailer .nodes) ⌝ }
-{
-    let n = trailer.nodes;
-    let mut v: u16 = 0;
-    while v < n {
-        if table[v as usize] == 0 {
-            return v;
-        }
-        v += 1;
-    }
-    v
-}
 
 // The least node that breaks rule 10, or their number.
 pub fn first_bad_count(file: &[u8], trailer: Trailer, counts: &mut [u32]) -> u16

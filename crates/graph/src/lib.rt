@@ -1,4 +1,4 @@
-// Edges, loops and counts: rules 6 to 10.
+// Edges, loops, paths and counts: rules 6 to 10 and 26.
 ghost use mathlib.Core.Path.{_≡_};
 ghost use Prim.Native.Nat.{_≤_};
 ghost use lib.ListN.{length};
@@ -9,11 +9,13 @@ ghost use Rattle.paper.specs.Known.{Laid, Shaped};
 ghost use Rattle.layout.specs.Counted.{Counted};
 
 mod counts;
+mod dead;
 mod edges;
 mod marks;
 mod nesting;
 
 use counts::first_bad_count;
+use dead::first_dead;
 use edges::edge_rule;
 use edges::first_bad_edge;
 pub use edges::wrong_edge;
@@ -37,7 +39,7 @@ pub fn shape_rules(file: &[u8], trailer: Trailer) -> Verdict
     Verdict::Accepted
 }
 
-// 8 and 9: the ways into loops and back. The table is overwritten.
+// 8, 9 and 26: the ways into loops, back, and to each node. The table is overwritten.
 pub fn path_rules(file: &[u8], trailer: Trailer, table: &mut [u32]) -> Verdict
     requires { ⌜ Laid (now file) trailer ⌝ }
     requires { ⌜ Shaped (caseOf (now file) trailer) ⌝ }
@@ -51,6 +53,10 @@ pub fn path_rules(file: &[u8], trailer: Trailer, table: &mut [u32]) -> Verdict
     let back = edge_rule(file, trailer, table, 9);
     if back < trailer.edges {
         return Verdict::Refused(paper::refuse(9, back as usize));
+    }
+    let node = first_dead(file, trailer, table);
+    if node < trailer.nodes {
+        return Verdict::Refused(paper::refuse(26, node as usize));
     }
     Verdict::Accepted
 }

@@ -1,7 +1,9 @@
-// A table over the nodes that the loops mark in turn, for rules 8 to 10.
+// A table over the nodes that loops or edges mark in turn, for rules 8 to 10 and 26.
 ghost use mathlib.Core.Path.{_≡_};
 ghost use Prim.Native.Nat.{_≤_};
-ghost use lib.ListN.{length};
+ghost use lib.Dec.{eqb};
+ghost use lib.ListN.{length, getD};
+ghost use Rattle.paper.specs.Lists.{least};
 ghost use Rattle.paper.specs.Ceilings.{mostNodes};
 ghost use Rattle.paper.specs.Files.{caseOf};
 ghost use Rattle.paper.specs.Known.{Laid, Shaped};
@@ -18,7 +20,7 @@ struct Mark {
 }
 
 // The places from `from` to before `to` become x.
-fn fill(table: &mut [u32], from: usize, to: usize, x: u32)
+pub fn fill(table: &mut [u32], from: usize, to: usize, x: u32)
     requires { ⌜ from ≤ to ⌝ }
     requires { ⌜ to ≤ length (now table) ⌝ }
     ensures { λ r. ⌜ Filled (now (table .entry)) (now (table .exit)) from to x ⌝ }
@@ -28,6 +30,22 @@ fn fill(table: &mut [u32], from: usize, to: usize, x: u32)
         table[i] = x;
         i += 1;
     }
+}
+
+// The least node whose place in the table holds 0, or their number.
+pub fn first_zero(trailer: Trailer, table: &[u32]) -> u16
+    requires { ⌜ trailer .nodes ≤ length (now table) ⌝ }
+    ensures { λ r. ⌜ r ≡ least (λ v. eqb (getD (now (table .entry)) v 0) 0) (trailer .nodes) ⌝ }
+{
+    let n = trailer.nodes;
+    let mut v: u16 = 0;
+    while v < n {
+        if table[v as usize] == 0 {
+            return v;
+        }
+        v += 1;
+    }
+    v
 }
 
 // What loop l marks, where n is its header's count over the loops up to it. 8: at its other nodes its header; 9: at its header the node after its last; 10: at all its nodes n.

@@ -1,4 +1,4 @@
--- What the tests of the rules 6 to 10 say, and that a graph that passes them is sound.
+-- What the tests of the rules 6 to 10 say, and that a graph that passes them and 26 is sound.
 use Prim.Native.Nat.{ℕ, zero, suc, _-_, _≤_, _<_}
 use native.Mathlib.Omega.{arith}
 use native.Mathlib.Decide.{ℕ-discrete, decLe}
@@ -6,11 +6,13 @@ use mathlib.Core.Path.{_≡_, sym, _∙_}
 use mathlib.Core.Logic.{_⊎_, inl, inr, ⊎-elim}
 use Rattle.paper.specs.declared.Loop.{Loop}
 use Rattle.paper.specs.Cases.{Case, inside}
-use Rattle.paper.specs.Graphs.{risesFrom, crosses, beside, returns, around, wrongEdge, wrongLoop, badEdge, badLoop, badEntry, badReturn, count, badCount}
+use Rattle.paper.specs.Graphs.{risesFrom, crosses, beside, returns, around, wrongEdge, wrongLoop, badEdge, badLoop, badEntry, badReturn, dead, count, badCount}
+use Rattle.paper.specs.Walks.{Edge}
 use Rattle.paper.specs.Known.{Shaped}
 use Rattle.paper.proofs.Least.{None}
 use Rattle.paper.proofs.Says.{Says, says-lt, says-le, says-eq, says-not, says-and, says-or, says-some, says-false, says-stable}
 use Rattle.paper.proofs.Meaning.{In, SoundGraph}
+use Rattle.paper.proofs.Reached.{reached-says, dead-says}
 
 pub inside-says : (l : Loop) (v : ℕ) → Says (In l v) (inside l v)
 unfolding inside
@@ -137,41 +139,37 @@ module _ (e : Case) (edges : None (badEdge e) (e .edges)) (loops : None (badLoop
   pub shaped : Shaped e
   shaped = record { ends = ends-at; climbs = climbs-at; fits = fits e loops; rises = rises e loops; nested = nested e loops }
 
--- Beyond that, no edge and no node breaks one of the rules 8 to 10.
-module _
-    (e : Case)
-    (shape : Shaped e)
-    (entries : None (badEntry e) (e .edges))
-    (returns : None (badReturn e) (e .edges))
-    (counts : None (badCount e) (e .nodes)) where
-  -- edge i, which goes from u to v
-  module _ (u v i : ℕ) (h : i < e .edges) (from : e .from i ≡ u) (to : e .to i ≡ v) where
-    ends-of : (u < e .nodes) × (v < e .nodes)
-    ends-of = (omega (arith, shape .ends i h), omega (arith, shape .ends i h))
+-- What rule 8 gives.
+pub forward-at : (e : Case) → None (badEntry e) (e .edges) → (u v : ℕ) → Edge e u v → u < v → (j : ℕ) → j < e .loops → In (e .loop j) v → ¬ In (e .loop j) u → v ≡ e .loop j .first
+forward-at e entries u v (i, h, from, to) lt j l iv nu =
+    let n = says-false (entry-says e i) .0 (entries i h) in
+    says-stable (says-eq v (e .loop j .first)) λ ne.
+    n (omega arith, (j, l, (rw to iv, (rw from nu, rw to ne))))
 
-    forward-at : u < v → (j : ℕ) → j < e .loops → In (e .loop j) v → ¬ In (e .loop j) u → v ≡ e .loop j .first
-    forward-at lt j l iv nu =
-        let n = says-false (entry-says e i) .0 (entries i h) in
-        says-stable (says-eq v (e .loop j .first)) λ ne.
-        n (omega arith, (j, l, (rw to iv, (rw from nu, rw to ne))))
+-- What rule 9 gives.
+pub back-at : (e : Case) → None (badReturn e) (e .edges) → (u v : ℕ) → Edge e u v → v ≤ u → (j : ℕ) × (j < e .loops) × (v ≡ e .loop j .first) × In (e .loop j) u
+back-at e returns u v (i, h, from, to) le =
+    let n = says-false (return-says e i) .0 (returns i h) in
+    let r = says-stable (says-some (λ j. returns-says (e .loop j) (e .from i) (e .to i)) (e .loops)) (λ m. n (omega arith, m)) in
+    (r .0, r .1, sym to ∙ r .2 .1, (omega (arith, r .2 .0), omega (arith, r .2 .0)))
 
-    back-at : v ≤ u → (j : ℕ) × (j < e .loops) × (v ≡ e .loop j .first) × In (e .loop j) u
-    back-at le =
-        let n = says-false (return-says e i) .0 (returns i h) in
-        let r = says-stable (says-some (λ j. returns-says (e .loop j) (e .from i) (e .to i)) (e .loops)) (λ m. n (omega arith, m)) in
-        (r .0, r .1, sym to ∙ r .2 .1, (omega (arith, r .2 .0), omega (arith, r .2 .0)))
+-- Beyond that, no edge and no node breaks one of the rules 8 to 10 and 26.
+pub graph-sound : (e : Case) → Shaped e → None (badEntry e) (e .edges) → None (badReturn e) (e .edges) → None (dead e) (e .nodes) → None (badCount e) (e .nodes) → SoundGraph e
+graph-sound e shape entries returns lives counts =
+    record {
+      ends = λ u v x. ends-of u v (x .0) (x .1) (x .2) (x .3);
+      fits = shape .fits;
+      rises = shape .rises;
+      nested = shape .nested;
+      forward = forward-at e entries;
+      back = back-at e returns;
+      reached = λ v h. says-stable (reached-says e shape v) (says-false (dead-says e shape v) .0 (lives v h));
+      counts = λ v h. low v (says-false (count-says e v) .0 (counts v h));
+    }
+  where
+    -- edge i, which goes from u to v
+    ends-of : (u v i : ℕ) → i < e .edges → e .from i ≡ u → e .to i ≡ v → (u < e .nodes) × (v < e .nodes)
+    ends-of u v i h from to = (omega (arith, shape .ends i h), omega (arith, shape .ends i h))
 
-  pub graph-sound : SoundGraph e
-  graph-sound =
-      record {
-        ends = λ u v x. ends-of u v (x .0) (x .1) (x .2) (x .3);
-        fits = shape .fits;
-        rises = shape .rises;
-        nested = shape .nested;
-        forward = λ u v x. forward-at u v (x .0) (x .1) (x .2) (x .3);
-        back = λ u v x. back-at u v (x .0) (x .1) (x .2) (x .3);
-        counts = λ v h. low v (says-false (count-says e v) .0 (counts v h));
-      }
-    where
-      low : (v : ℕ) → ¬ (4294967295 < count e v) → count e v ≤ 4294967295
-      low v n = omega arith
+    low : (v : ℕ) → ¬ (4294967295 < count e v) → count e v ≤ 4294967295
+    low v n = omega arith

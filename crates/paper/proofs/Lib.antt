@@ -1,4 +1,5 @@
 pub mod Least
+pub mod Climbs
 pub mod Says
 pub mod Sums
 pub mod TableLaws
@@ -8,6 +9,9 @@ pub mod PolicyLaws
 pub mod Meaning
 pub mod RuleLaws
 pub mod Before
+pub mod Reach
+pub mod Reached
+pub mod DeadPlaces
 pub mod GraphLaws
 pub mod RowLaws
 pub mod FactLaws

@@ -7,7 +7,7 @@ use Rattle.paper.specs.declared.Loop.{Loop}
 use Rattle.paper.specs.Machines.{none, inRange}
 use Rattle.paper.specs.Cases.{Row, Fact, Case, scopeOf, rowOf}
 use Rattle.paper.specs.Graphs.{count}
-use Rattle.paper.specs.Walks.{Edge}
+use Rattle.paper.specs.Walks.{Edge, Reaches}
 use Rattle.paper.specs.Facts.{held}
 use Rattle.paper.specs.Demands.{Other}
 
@@ -15,7 +15,7 @@ use Rattle.paper.specs.Demands.{Other}
 abbrev pub In : Loop → ℕ → Type 0
 In l v = (l .first ≤ v) × (v ≤ l .last)
 
--- Rules 6 to 10.
+-- Rules 6 to 10 and 26.
 pub record SoundGraph (e : Case) : Type 0 where
   pub ends : (u v : ℕ) → Edge e u v → (u < e .nodes) × (v < e .nodes)
   pub fits : (j : ℕ) → j < e .loops → (e .loop j .first ≤ e .loop j .last) × (e .loop j .last < e .nodes) × (1 ≤ e .loop j .bound)
@@ -26,6 +26,8 @@ pub record SoundGraph (e : Case) : Type 0 where
   pub forward : (u v : ℕ) → Edge e u v → u < v → (j : ℕ) → j < e .loops → In (e .loop j) v → ¬ In (e .loop j) u → v ≡ e .loop j .first
   -- any other edge goes to the header of a loop that it is in
   pub back : (u v : ℕ) → Edge e u v → v ≤ u → (j : ℕ) × (j < e .loops) × (v ≡ e .loop j .first) × In (e .loop j) u
+  -- some walk ends at each node
+  pub reached : (v : ℕ) → v < e .nodes → Reaches e v
   pub counts : (v : ℕ) → v < e .nodes → count e v ≤ 4294967295
 
 -- The row holds the block x.
@@ -72,7 +74,7 @@ module _ (e : Case) (t : Fact) where
     pub fetched : (v : ℕ) × In (scopeOf e t) v × (e .block v ≡ t .block)
     pub evidence : SoundEvidence
 
--- Rules 3 and 4, 6 to 10, and each fact's.
+-- Rules 3 and 4, 6 to 10 and 26, and each fact's.
 pub record Sound (e : Case) : Type 0 where
   pub cache : inRange (e .policy) (e .ways) (e .sets) ≡ true
   pub nodes : 1 ≤ e .nodes

@@ -4,7 +4,7 @@ use mathlib.Core.Bool.{true}
 use Rattle.paper.specs.Lists.{leastFrom, least, some, sumTo, productTo, lowestTo, table}
 use Rattle.paper.specs.Machines.{lineOf, hits, pushed, lruStep, fifoStep, bitAt, victim, marked, lineOr, missLine, nmruLine, nmruStep, step, offered, setCount, inRange}
 use Rattle.paper.specs.Cases.{inside, rangeOf, sameSet, fetches}
-use Rattle.paper.specs.Graphs.{risesFrom, crosses, beside, returns, around, wrongEdge, wrongLoop, badEdge, badLoop, badEntry, badReturn, count, badCount, entriesOf, entries}
+use Rattle.paper.specs.Graphs.{risesFrom, crosses, beside, returns, around, wrongEdge, wrongLoop, badEdge, badLoop, badEntry, badReturn, joined, leads, reached, dead, count, badCount, entriesOf, entries}
 use Rattle.paper.specs.Facts.{held, holds, wrongHead, badHead, wrongOrder, badOrder, unfetched, badSlot, badRow, badRowAt, lacks, afterB, afterMany, afterSet, breaks, brokenBy, badStepAt, stepNumber, badManyAt, leastNode}
 use Rattle.paper.specs.Bounds.{ceil, boundOf, floorOf, covers, counts, entered, factBound, lives, uncovered, sumOf, A, M, floorAt, setBound, totalBound, numberAt}
 use Rattle.paper.specs.Files.{u16At, u32At, trailerOf, badLetter, badLetters, badCache, badNumbers, badOffsets, nodeAt, fromAt, toAt, loopAt, factEnd, factPlace, caseOf}
@@ -13,5 +13,5 @@ use Rattle.paper.specs.Listings.{decimalIn, decimal, line, lineOfTwo, li
 use Rattle.paper.specs.Checked.{allHold, checkedNumbers}
 
 pub checked-numbers-hold : allHold checkedNumbers ≡ true
-unfolding leastFrom least some sumTo productTo lowestTo table lineOf hits pushed lruStep fifoStep bitAt victim marked lineOr missLine nmruLine nmruStep step offered setCount inRange inside rangeOf sameSet fetches risesFrom crosses beside returns around wrongEdge wrongLoop badEdge badLoop badEntry badReturn count badCount entriesOf entries held holds wrongHead badHead wrongOrder badOrder unfetched badSlot badRow badRowAt lacks afterB afterMany afterSet breaks brokenBy badStepAt stepNumber badManyAt leastNode ceil boundOf floorOf covers counts entered factBound lives uncovered sumOf A M floorAt setBound totalBound numberAt u16At u32At trailerOf badLetter badLetters badCache badNumbers badOffsets nodeAt fromAt toAt loopAt factEnd factPlace caseOf layoutRules shapeRules pathRules countRules headRule orderRule fetchRule rowRules stepRules manyRules bodyRules turnRules turnsFrom factRules verdict decimalIn decimal line lineOfTwo linesFrom boundLines listingOf
+unfolding leastFrom least some sumTo productTo lowestTo table lineOf hits pushed lruStep fifoStep bitAt victim marked lineOr missLine nmruLine nmruStep step offered setCount inRange inside rangeOf sameSet fetches risesFrom crosses beside returns around wrongEdge wrongLoop badEdge badLoop badEntry badReturn joined leads reached dead count badCount entriesOf entries held holds wrongHead badHead wrongOrder badOrder unfetched badSlot badRow badRowAt lacks afterB afterMany afterSet breaks brokenBy badStepAt stepNumber badManyAt leastNode ceil boundOf floorOf covers counts entered factBound lives uncovered sumOf A M floorAt setBound totalBound numberAt u16At u32At trailerOf badLetter badLetters badCache badNumbers badOffsets nodeAt fromAt toAt loopAt factEnd factPlace caseOf layoutRules shapeRules pathRules countRules headRule orderRule fetchRule rowRules stepRules manyRules bodyRules turnRules turnsFrom factRules verdict decimalIn decimal line lineOfTwo linesFrom boundLines listingOf
 checked-numbers-hold = refl

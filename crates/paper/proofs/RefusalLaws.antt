@@ -24,7 +24,7 @@ use Rattle.paper.specs.Lists.{least, some}
 use Rattle.paper.specs.Machines.{emptySet, step, offered, setCount, legal, inRange}
 use Rattle.paper.specs.Operations.{refusedStep, stepAnswer, lineSize, blockAnswer, setAnswer}
 use Rattle.paper.specs.Traces.{Run, refusedRun, tookRun, badAccess, marks, traceRun}
-use Rattle.paper.specs.Graphs.{badEdge, badLoop, badEntry, badReturn, badCount}
+use Rattle.paper.specs.Graphs.{badEdge, badLoop, badEntry, badReturn, dead, badCount}
 use Rattle.paper.specs.Cases.{Fact, Case, size, scopeOf}
 use Rattle.paper.specs.Facts.{nonePrevious, previousOf, badHead, badOrder, unfetched, badRowAt, afterB, afterMany, brokenBy, badStepAt, stepNumber, badManyAt}
 use Rattle.paper.specs.Files.{endAt, trailerOf, badLetters, badCache, badNumbers, badOffsets, factsAt, factAt, factEnd, factPlace, caseOf, readCase}
@@ -84,7 +84,8 @@ module _ (e : Case) where
   graph-numbered rest p =
       one 5 _ (some (badEdge e) (e .edges))
       (one 6 _ (some (badLoop e) (e .loops))
-      (one 7 _ (some (badEntry e) (e .edges)) (one 8 _ (some (badReturn e) (e .edges)) (one 9 _ (some (badCount e) (e .nodes)) p))))
+      (one 7 _ (some (badEntry e) (e .edges))
+      (one 8 _ (some (badReturn e) (e .edges)) (one 25 _ (some (dead e) (e .nodes)) (one 9 _ (some (badCount e) (e .nodes)) p)))))
 
 module _ (f : List ℕ) (trailer : Trailer) where
   turn-numbered : (i : ℕ) (previous : Previous) (p : ℕ) (rest : Verdict) → Numbered 1 toldVerdict rest → Numbered 1 toldVerdict (turnRules f trailer i previous p rest)

@@ -1,12 +1,12 @@
--- Two cases whose graphs are the same below their numbers break the same of the rules 6 to 10, and their ranges of nodes are the same.
-use Prim.Native.Nat.{ℕ, _-_, _≤_, _<_}
+-- Two cases whose graphs are the same below their numbers break the same of the rules 6 to 10 and 26, and their ranges of nodes are the same.
+use Prim.Native.Nat.{ℕ, zero, suc, _-_, _≤_, _<_}
 use native.Mathlib.Omega.{arith}
 use native.Mathlib.Decide.{ℕ-discrete}
 use mathlib.Core.Path.{_≡_, refl, sym, _∙_, ap}
 use mathlib.Core.Logic.{_≢_}
-use mathlib.Core.Bool.{Bool, cond}
+use mathlib.Core.Bool.{Bool, cond, _&&_}
 use borrow.Author.Tests.{eq-eqb, ne-eqb}
-use lib.Dec.{ltb}
+use lib.Dec.{eqb, ltb}
 use Rattle.paper.specs.declared.Verdict.{Verdict}
 use Rattle.paper.specs.Lists.{least, some, productTo}
 use Rattle.paper.specs.Machines.{none}
@@ -14,7 +14,7 @@ use Rattle.paper.specs.Cases.{Case, inside, rangeOf}
 use Rattle.paper.specs.Known.{Shaped}
 use Rattle.paper.specs.Rules.{ruleAt}
 use Rattle.paper.specs.Verdicts.{shapeRules, pathRules, countRules, graphRules}
-use Rattle.paper.specs.Graphs.{wrongEdge, wrongLoop, crosses, beside, returns, badEdge, badLoop, badEntry, badReturn, count, badCount}
+use Rattle.paper.specs.Graphs.{wrongEdge, wrongLoop, crosses, beside, returns, badEdge, badLoop, badEntry, badReturn, joined, leads, reached, dead, count, badCount}
 use Rattle.paper.proofs.Least.{least-same, some-same}
 use Rattle.paper.proofs.Sums.{product-same}
 use Rattle.paper.proofs.Meaning.{In}
@@ -70,6 +70,22 @@ module _ (e d : Case) (s : SameGraph e d) where
       = some-same _ _ (e .loops) (λ k h. rw (s .loop k h, s .from i l, s .to i l) refl) in
       rw (c, s .from i l, s .to i l, s .loops) refl
 
+  -- 26
+  joined-same : (u v : ℕ) → joined e u v ≡ joined d u v
+  unfolding joined
+  joined-same u v =
+      some-same _ _ (e .edges) (λ i h. rw (s .from i h, s .to i h) refl)
+      ∙ ap (λ (n : ℕ). some (λ i. eqb (d .from i) u && eqb (d .to i) v) n) (s .edges)
+
+  leads-same : (k u v : ℕ) → leads e k u v ≡ leads d k u v
+  unfolding leads
+  leads-same zero u v = joined-same u v
+  leads-same (suc k) u v = rw (leads-same k u v, leads-same k u k, leads-same k k v) refl
+
+  dead-same : (v : ℕ) → dead e v ≡ dead d v
+  unfolding reached dead
+  dead-same v = rw (leads-same (e .nodes) 0 v, s .nodes) refl
+
   -- 10
   pub count-same : (v : ℕ) → count e v ≡ count d v
   unfolding count
@@ -90,7 +106,8 @@ module _ (e d : Case) (s : SameGraph e d) where
   unfolding pathRules countRules
   graph-same rest =
       shape-same _ _
-      (rule-at-same 8 (s .edges) entry-same (rule-at-same 9 (s .edges) return-same (rule-at-same 10 (s .nodes) (λ v l. bad-count-same v) refl)))
+      (rule-at-same 8 (s .edges) entry-same
+      (rule-at-same 9 (s .edges) return-same (rule-at-same 26 (s .nodes) (λ v l. dead-same v) (rule-at-same 10 (s .nodes) (λ v l. bad-count-same v) refl))))
 
   -- a range that there is
   module _ (w : ℕ) (there : w ≢ none → w < e .loops) where

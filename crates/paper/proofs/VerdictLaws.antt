@@ -14,7 +14,7 @@ use Rattle.paper.specs.declared.Verdict.{Verdict}
 use Rattle.paper.specs.declared.Verdict.the-variants.{Accepted, Refused}
 use Rattle.paper.specs.Lists.{some}
 use Rattle.paper.specs.Cases.{Fact, Case, size, scopeOf}
-use Rattle.paper.specs.Graphs.{badEdge, badLoop, badEntry, badReturn, badCount}
+use Rattle.paper.specs.Graphs.{badEdge, badLoop, badEntry, badReturn, dead, badCount}
 use Rattle.paper.specs.Facts.{previousOf, badHead, badOrder, unfetched, badRowAt, badStepAt, badManyAt}
 use Rattle.paper.specs.Files.{endAt, trailerOf, badLetters, badCache, badNumbers, badOffsets, factAt, factEnd, factPlace, caseOf, readCase}
 use Rattle.paper.specs.Known.{Laid, Shaped}
@@ -59,8 +59,9 @@ module _ (e : Case) where
       let s = shape-kept _ h in
       let c = past 8 _ _ _ (s .1) in
       let d = past 9 _ _ _ (c .1) in
-      let g = past 10 _ _ _ (d .1) in
-      (s .0, graph-sound e (s .0) (none-some _ _ (c .0)) (none-some _ _ (d .0)) (none-some _ _ (g .0)), g .1)
+      let l = past 26 _ _ _ (d .1) in
+      let g = past 10 _ _ _ (l .1) in
+      (s .0, graph-sound e (s .0) (none-some _ _ (c .0)) (none-some _ _ (d .0)) (none-some _ _ (l .0)) (none-some _ _ (g .0)), g .1)
 
   pub hands-shape : Hands (shapeRules e)
   unfolding shapeRules
@@ -68,7 +69,9 @@ module _ (e : Case) where
 
   pub hands-paths : Hands (pathRules e)
   unfolding pathRules
-  hands-paths = hands-then _ _ (hands-rule 8 _ (some (badEntry e) (e .edges))) (hands-rule 9 _ (some (badReturn e) (e .edges)))
+  hands-paths =
+      hands-then _ _ (hands-rule 8 _ (some (badEntry e) (e .edges)))
+      (hands-then _ _ (hands-rule 9 _ (some (badReturn e) (e .edges))) (hands-rule 26 _ (some (dead e) (e .nodes))))
 
   pub hands-counts : Hands (countRules e)
   unfolding countRules

@@ -93,7 +93,7 @@ pub record AcceptedEvidence (f : List ℕ) (t : Fact) (room : ℕ) : Type 0 wher
   pub bytes : Bytes (fileWith f t rows)
   pub accepted : verdict (fileWith f t rows) room ≡ Accepted
 
--- "for an otherwise sound fact, evidence that the tool accepts exists exactly when …": "one that passes 12 to 14 in a file that passes 1 to 10"
+-- "for an otherwise sound fact, evidence that the tool accepts exists exactly when …": "one that passes 12 to 14 in a file that passes 1 to 10", and since request 5 also 26
 -- (13 compares it with the fact before it, and plays no part).
 abbrev pub EvidenceExact : List ℕ → Type 0
 EvidenceExact f =

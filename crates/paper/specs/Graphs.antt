@@ -1,5 +1,5 @@
--- "The graph and its walks": edges, loops, counts and entries, as the rules 6 to 10 test them.
-use Prim.Native.Nat.{ℕ, _-_}
+-- "The graph and its walks": edges, loops, counts and entries, as the rules 6 to 10 and 26 test them.
+use Prim.Native.Nat.{ℕ, zero, suc, _-_}
 use mathlib.Core.Bool.{Bool, cond, not, _&&_, _||_}
 use lib.Dec.{eqb, ltb, leb}
 use Rattle.paper.specs.declared.Loop.{Loop}
@@ -57,6 +57,23 @@ module _ (e : Case) where
   -- 9: "backward edge not to a header around its source"
   unfoldable pub badReturn : ℕ → Bool
   badReturn i = leb (e .to i) (e .from i) && not (some (λ j. returns (e .loop j) (e .from i) (e .to i)) (e .loops))
+
+  -- There is an edge u to v.
+  unfoldable pub joined : ℕ → ℕ → Bool
+  joined u v = some (λ i. eqb (e .from i) u && eqb (e .to i) v) (e .edges)
+
+  -- Edges lead from u to v past no nodes but those below a number. Past those below suc k: past those below k alone, or first to node k and then on from it.
+  unfoldable pub leads : ℕ → ℕ → ℕ → Bool
+  leads zero u v = joined u v
+  leads (suc k) u v = leads k u v || (leads k u k && leads k k v)
+
+  -- Node 0, or a node that "edges lead to from node 0".
+  unfoldable pub reached : ℕ → Bool
+  reached v = eqb v 0 || leads (e .nodes) 0 v
+
+  -- 26: "a node other than 0 that no edges lead to from node 0"
+  unfoldable pub dead : ℕ → Bool
+  dead v = not (reached v)
 
   -- "Count of a node: the product of B over all loops that contain it."
   unfoldable pub count : ℕ → ℕ

@@ -1,4 +1,4 @@
--- The check "tests 20 first, then 1 to 10 in order, each over the whole file; then for each fact in turn 11 to 18; then 19", with 24 and 25 "at 17's old place before 18": the chains of which the verdict is made, each by its name.
+-- The check "tests 20 first, then 1 to 10 in order, each over the whole file; then for each fact in turn 11 to 18; then 19", with 26 "after 9 and before 10", and 24 and 25 "at 17's old place before 18": the chains of which the verdict is made, each by its name.
 use Prim.Native.Nat.{ℕ, zero, suc}
 use mathlib.Core.List.{List, _++_}
 use lib.Dec.{ltb}
@@ -11,7 +11,7 @@ use Rattle.paper.specs.Answers.{refuseAt}
 use Rattle.paper.specs.Lists.{least, some}
 use Rattle.paper.specs.Rules.{ruleBy, rule, ruleAt}
 use Rattle.paper.specs.Cases.{Fact, Case, size, scopeOf}
-use Rattle.paper.specs.Graphs.{badEdge, badLoop, badEntry, badReturn, badCount}
+use Rattle.paper.specs.Graphs.{badEdge, badLoop, badEntry, badReturn, dead, badCount}
 use Rattle.paper.specs.Facts.{nonePrevious, previousOf, badHead, badOrder, unfetched, badRowAt, badStepAt, stepNumber, badManyAt, leastNode}
 use Rattle.paper.specs.Bounds.{listLength, numbers}
 use Rattle.paper.specs.Records.{trailerSize}
@@ -29,9 +29,9 @@ module _ (e : Case) where
   unfoldable pub shapeRules : Verdict → Verdict
   shapeRules rest = ruleAt 6 (badEdge e) (e .edges) (ruleAt 7 (badLoop e) (e .loops) rest)
 
-  -- 8 and 9, the ways into loops and back
+  -- 8, 9 and 26, the ways into loops, back, and to each node; 26: "place the least such node"
   unfoldable pub pathRules : Verdict → Verdict
-  pathRules rest = ruleAt 8 (badEntry e) (e .edges) (ruleAt 9 (badReturn e) (e .edges) rest)
+  pathRules rest = ruleAt 8 (badEntry e) (e .edges) (ruleAt 9 (badReturn e) (e .edges) (ruleAt 26 (dead e) (e .nodes) rest))
 
   -- 10
   unfoldable pub countRules : Verdict → Verdict
@@ -91,7 +91,7 @@ module _ (f : List ℕ) (trailer : Trailer) where
   unfoldable pub factRules : Verdict → Verdict
   factRules rest = turnsFrom (trailer .facts) 0 nonePrevious (factsAt trailer) (rule 19 0 (ltb (factPlace f trailer (trailer .facts)) (endAt f)) rest)
 
--- "1 to 10 in order, each over the whole file"
+-- "1 to 10 in order, each over the whole file", and 26 among them
 abbrev pub wholeFileRules : List ℕ → Verdict → Verdict
 wholeFileRules f rest = layoutRules f (graphRules (readCase f) rest)
 

@@ -26,6 +26,10 @@ Follows e p (v ∷ w) = Step e p v × Follows e (some v) w
 abbrev pub Walk : Case → List ℕ → Type 0
 Walk e w = Follows e none w
 
+-- There is a walk that ends at v.
+abbrev pub Reaches : Case → ℕ → Type 0
+Reaches e v = (w : List ℕ) × Walk e w × (getLast? w ≡ some v)
+
 -- How often v is visited.
 abbrev pub visits : ℕ → List ℕ → ℕ
 visits v [] = 0

@@ -5,7 +5,7 @@ use mathlib.Core.Logic.{_≢_, ⊎-elim}
 use mathlib.Core.List.{List, [], _∷_, List·Memᴰ, List·Memᴰ·head, List·Memᴰ·tail, List·Memᴰ·cases-cons, List·Memᴰ·not-nil}
 use Rattle.paper.specs.Cases.{Fact, Case}
 use Rattle.paper.specs.Demands.{EdgeInside, WalkInside, Other, Gathered}
-use Rattle.theory.proofs.Reach.{Way, last, next}
+use Rattle.paper.proofs.Reach.{Way, last, next}
 
 module _ (e : Case) (t : Fact) where
   abbrev pub Clear : ℕ → ℕ → Type 0

@@ -12,7 +12,7 @@ use Rattle.paper.specs.Walks.{Edge}
 use Rattle.paper.specs.Demands.{Rising, EdgeInside, Other, Gathered, FewGathered}
 use Rattle.paper.proofs.Says.{says-true}
 use Rattle.paper.proofs.GraphLaws.{inside-says}
-use Rattle.theory.proofs.Reach.{last, next, join, way?, some?, Dec·and₃}
+use Rattle.paper.proofs.Reach.{last, next, join, way?, some?, Dec·and₃}
 use Rattle.theory.proofs.Sorted.{no-longer, Those, those}
 use Rattle.theory.proofs.Clear.{Clear, split, gather}
 

@@ -98,7 +98,7 @@ block-small : (f : List ℕ) → Bytes f → (v : ℕ) → nodeAt f v < 65536
 unfolding nodeAt u16At
 block-small f h v = omega (arith, byte-at f h (2 * v), byte-at f h (2 * v + 1))
 
--- The same of a file that passes 1 to 10 and an otherwise sound fact, with rows in a list of their own.
+-- The same of a file that passes 1 to 10 and 26 and an otherwise sound fact, with rows in a list of their own.
 pub rows-exact : (f : List ℕ) → Bytes f → Passes (wholeFileRules f) → (t : Fact) → badHead (readCase f) t ≡ false →
     Evidence (readCase f) t ↔ FewGathered (readCase f) t
 unfolding caseOf

@@ -38,7 +38,6 @@ pub mod Seen
 pub mod Printed
 pub mod Demand
 pub mod Accepted
-pub mod Reach
 pub mod Sorted
 pub mod Clear
 pub mod Decided

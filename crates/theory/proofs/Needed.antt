@@ -14,7 +14,7 @@ use Rattle.paper.proofs.GraphLaws.{inside-says}
 use Rattle.paper.proofs.RowLaws.{held-set}
 use Rattle.paper.proofs.TableLaws.{length-table}
 use Rattle.paper.proofs.Meaning.{In, Holds, SoundRow, EdgeRule, SoundEvidence}
-use Rattle.theory.proofs.Reach.{last, next}
+use Rattle.paper.proofs.Reach.{last, next}
 use Rattle.theory.proofs.Clear.{Clear, split}
 use Rattle.theory.proofs.Sorted.{no-longer}
 use Rattle.theory.proofs.Blocks.{blocks, blocks-rising, holds-mem}

@@ -174,7 +174,7 @@ one-graph f t rows passes =
     let kept = tests-kept f _ passes in
     subst (λ (s : Trailer). SameGraph (readCase f) (caseOf (fileWith f t rows) s)) (sym (trailer-is f t rows kept)) (same-graph f t rows kept)
 
--- For a graph that passes 1 to 10 and an otherwise sound fact, the file with that graph and this one fact with these rows is accepted exactly when the rows pass.
+-- For a graph that passes 1 to 10 and 26 and an otherwise sound fact, the file with that graph and this one fact with these rows is accepted exactly when the rows pass.
 pub one-fact : (f : List ℕ) (t : Fact) (rows : List ℕ) → Passes (wholeFileRules f) → badHead (readCase f) t ≡ false → unfetched (readCase f) t ≡ false →
     (room : ℕ) → 321 ≤ room →
     (verdict (fileWith f t rows) room ≡ Accepted) ↔ ((length rows ≡ 16 * size (scopeOf (readCase f) t)) × Passes (evidenceRules (readCase f) 0 (withRows (readCase f) t rows)))

@@ -97,6 +97,18 @@ impl Graph {
         u >= v && !returns_well
     }
 
+    /// The nodes that edges lead to from node 0, over any number of edges, whichever way they go; and node 0.
+    pub fn reached(&self) -> BTreeSet<usize> {
+        let mut reached = BTreeSet::from([0]);
+        let mut last_found = reached.clone();
+        while !last_found.is_empty() {
+            let ends = self.edges.iter().filter(|(u, _)| last_found.contains(u)).map(|&(_, v)| v);
+            last_found = ends.filter(|v| !reached.contains(v)).collect();
+            reached.extend(&last_found);
+        }
+        reached
+    }
+
     /// "Count of a node: the product of B over all loops that contain it." None where it passes the largest count.
     pub fn count(&self, node: usize) -> Option<u128> {
         let bounds = self.around[node].iter().map(|&i| self.loops[i].bound);

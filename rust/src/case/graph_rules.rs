@@ -1,11 +1,11 @@
-//! Rules 6 to 10, each over the whole file.
+//! Rules 6 to 10, with 26 after 9, each over the whole file.
 
 use super::draft::{Lists, LoopRecord};
 use super::layout::Layout;
 use super::{Graph, LARGEST_BOUND};
 use crate::refusal::{refuse_least, Refusal};
 
-/// The graph, if it keeps rules 6 to 10.
+/// The graph, if it keeps rules 6 to 10 and 26.
 pub fn read_graph(layout: &Layout) -> Result<Graph, Refusal> {
     let lists = Lists::read(layout);
     rule_6(&lists)?;
@@ -13,6 +13,9 @@ pub fn read_graph(layout: &Layout) -> Result<Graph, Refusal> {
     let graph = Graph::new(&lists);
     refuse_least(8, graph.edges.iter().map(|&(u, v)| graph.enters_beside_header(u, v)))?;
     refuse_least(9, graph.edges.iter().map(|&(u, v)| graph.returns_to_no_header(u, v)))?;
+    // "26, place the least such node, after 9 and before 10": "a node other than 0 that no edges lead to from node 0".
+    let reached = graph.reached();
+    refuse_least(26, (0..graph.blocks.len()).map(|node| !reached.contains(&node)))?;
     refuse_least(10, (0..graph.blocks.len()).map(|node| graph.count(node).is_none()))?;
     Ok(graph)
 }

@@ -20,7 +20,7 @@ pub struct Case {
 }
 
 /// "1 to 10 in order, each over the whole file; then for each fact in turn 11 to 18; then 19": 24 and 25 "stand at 17's
-/// old place before 18".
+/// old place before 18", and 26 stands "after 9 and before 10".
 pub fn judge(file: &[u8], rules: &dyn Rules) -> Result<Case, Refusal> {
     let layout = read_layout(file)?;
     let graph = read_graph(&layout)?;

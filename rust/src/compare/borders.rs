@@ -1,11 +1,13 @@
 //! Case files at the limits, each of which a wrong comparison sign would judge otherwise.
 
-use crate::case::{Draft, FactRecord, Lists, LoopRecord, Row, WHOLE_GRAPH};
+use crate::case::{Draft, FactRecord, Lists, LoopRecord, Row, RowRecord, WHOLE_GRAPH};
+use crate::generate::graphs::steps;
 use std::collections::BTreeSet;
+use std::ops::Range;
 
-/// Nodes that fetch 0, 1, 2, ... in turn, without edges.
+/// Nodes that fetch 0, 1, 2, ... in turn, each with an edge to the next.
 fn nodes(n: usize) -> Draft {
-    let lists = Lists { nodes: (0..n as u16).collect(), ..Lists::default() };
+    let lists = Lists { nodes: (0..n as u16).collect(), edges: steps(n as u16).collect(), loops: Vec::new() };
     Draft { policy: 1, ways: 8, sets: 64, lists, facts: Vec::new() }
 }
 
@@ -22,37 +24,41 @@ fn with_loops(mut draft: Draft, loops: u16) -> Draft {
     draft
 }
 
-/// As many edges as asked for, forward ones, from each node to the next ones.
+/// As many edges as asked for, forward ones, from each node to the next, and from the first ones further ahead.
 fn with_edges(mut draft: Draft, edges: usize) -> Draft {
     let n = draft.lists.nodes.len() as u16;
-    let forward = (0..n).flat_map(|u| (u + 1..n.min(u + 9)).map(move |v| (u, v)));
-    draft.lists.edges = forward.take(edges).collect();
+    let ahead = (0..n).flat_map(|u| (u + 2..n.min(u + 9)).map(move |v| (u, v)));
+    draft.lists.edges = steps(n).chain(ahead).take(edges).collect();
+    draft.lists.edges.sort();
     draft
 }
 
-/// Facts about as many blocks as asked for, over the whole graph: each is fetched once, with 9 up to there and 8 behind.
+/// Facts about as many blocks as asked for, over the whole graph, where block i is fetched once, at node i.
 fn with_facts(mut draft: Draft, facts: usize) -> Draft {
-    let n = draft.lists.nodes.len();
-    let row = |node, block| if node > block { Row::Many } else { Row::NotSince };
-    let fact = |block: usize| FactRecord {
-        scope: WHOLE_GRAPH,
-        block: block as u16,
-        limit: 1 + (block % 8) as u16,
-        rows: (0..n).map(|node| row(node, block).record()).collect(),
-    };
-    draft.facts = (0..facts).map(fact).collect();
+    let n = draft.lists.nodes.len() as u16;
+    let fact = |block| FactRecord { scope: WHOLE_GRAPH, block, limit: 1 + block % 8, rows: fetched_once(0..n, block) };
+    draft.facts = (0..facts as u16).map(fact).collect();
     draft
+}
+
+/// Rows for a block that is fetched once, at the node of its number: 9 up to there and 8 behind.
+pub fn fetched_once(nodes: Range<u16>, block: u16) -> Vec<RowRecord> {
+    nodes.map(|node| if node > block { Row::Many } else { Row::NotSince }.record()).collect()
+}
+
+/// The row where nothing has gathered.
+fn nothing() -> RowRecord {
+    Row::Blocks(BTreeSet::new()).record()
 }
 
 /// A loop of a block and no other, where nothing gathers and l = 1 suffices.
 fn alone(policy: u8, bound: u32) -> Draft {
-    let row = Row::Blocks(BTreeSet::new()).record();
     Draft {
         policy,
         ways: 2,
         sets: 1,
         lists: Lists { nodes: vec![7], edges: vec![(0, 0)], loops: vec![LoopRecord { first: 0, last: 0, bound }] },
-        facts: vec![FactRecord { scope: 0, block: 7, limit: 1, rows: vec![row] }],
+        facts: vec![FactRecord { scope: 0, block: 7, limit: 1, rows: vec![nothing()] }],
     }
 }
 
@@ -69,7 +75,7 @@ fn heavy_fact(policy: u8, limit: u16) -> Draft {
     let mut draft = heavy(policy);
     draft.lists.nodes = vec![5; 1_024];
     draft.lists.loops.push(LoopRecord { first: 2, last: 1_023, bound: 1 });
-    draft.facts = vec![FactRecord { scope: 2, block: 5, limit, rows: vec![Row::NotSince.record(); 1_022] }];
+    draft.facts = vec![FactRecord { scope: 2, block: 5, limit, rows: vec![nothing(); 1_022] }];
     draft
 }
 

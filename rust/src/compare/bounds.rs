@@ -1,10 +1,12 @@
 //! The program `bounds` itself, started anew for each file: what it prints, byte for byte.
 
 use super::again::Again;
+use super::borders::fetched_once;
 use super::Settings;
-use crate::case::{Draft, FactRecord, Lists, LoopRecord, Paper, Row, LARGEST};
+use crate::case::{Draft, FactRecord, Lists, LoopRecord, Paper, LARGEST, TRAILER};
 use crate::generate::cases::{sound, Plan};
 use crate::generate::damage::{damage, scatter, RULES};
+use crate::generate::graphs::steps;
 use crate::listing::{listing, LONGEST_INPUT};
 use crate::machine::Shape;
 // A child process that is handed its input and read to its end: what talks to `pipe` starts `bounds` as well.
@@ -94,25 +96,25 @@ fn damaged_file(random: &mut Random, turn: usize) -> Vec<u8> {
     damage(random, &draft, &[rule]).0
 }
 
-/// The longest listing: 64 sets, and 256 facts, four in each of 64 loops. Without edges no row has to carry a block.
+/// The longest listing: 64 sets, and 256 facts, four in each of 64 loops.
 fn longest_listing(policy: u8) -> Vec<u8> {
     let lists = Lists {
         nodes: (0..256).collect(),
-        edges: Vec::new(),
+        edges: steps(256).collect(),
         loops: (0..64).map(|i| LoopRecord { first: 4 * i, last: 4 * i + 3, bound: 1_000_000 - u32::from(i) }).collect(),
     };
-    let fact = |block| FactRecord { scope: block / 4, block, limit: 2, rows: vec![Row::NotSince.record(); 4] };
+    let first = |block| block / 4 * 4;
+    let rows = |block| fetched_once(first(block)..first(block) + 4, block);
+    let fact = |block| FactRecord { scope: block / 4, block, limit: 2, rows: rows(block) };
     Draft { policy, ways: 8, sets: 64, lists, facts: (0..256).map(fact).collect() }.write()
 }
 
 /// The shortest and the longest inputs: "more than 65,536 bytes" is longer than the program reads.
 fn at_the_limits() -> Vec<Vec<u8>> {
-    let lists = Lists { nodes: (0..LARGEST[0]).collect(), ..Lists::default() };
+    let lists = Lists { nodes: (0..LARGEST[0]).collect(), edges: steps(LARGEST[0]).collect(), loops: Vec::new() };
     let whole = Draft { policy: 0, ways: 1, sets: 64, lists, facts: Vec::new() }.write();
-    let padded = |length: usize| {
-        let front = vec![0; length - whole.len()];
-        [front, whole.clone()].concat()
-    };
+    let (graph, trailer) = whole.split_at(whole.len() - TRAILER);
+    let padded = |length: usize| [graph, &vec![0; length - whole.len()], trailer].concat();
     let lengths = [LONGEST_INPUT - 1, LONGEST_INPUT, LONGEST_INPUT + 1, LONGEST_INPUT + 4_096, 3 * LONGEST_INPUT];
     let mut files = vec![Vec::new(), vec![0], whole.clone()];
     files.extend((0..3).map(longest_listing));

@@ -38,8 +38,10 @@ pub fn run(pipe: &Pipe, settings: &Settings) -> Result<(), String> {
     println!("case files, {} and some at the limits, by refusal:\n{}", settings.files, tally.table(5));
     println!("second places: apart from the number in the scope, one of several, of several rules, before an 18:");
     println!("{}", tally.seconds.table());
+    tally.dead.report();
     tally.demand(5, RULES.into_iter().chain([0]), AT_LEAST)?;
     tally.seconds.demand(&seconds::NUMBERS, AT_LEAST / 5)?;
+    tally.dead.demand(AT_LEAST / 5)?;
     again.finish()
 }
 

@@ -2,6 +2,7 @@
 //! more than the cache holds over the whole, on a chain of nodes with up to two loops.
 
 use super::facts;
+use super::graphs::steps;
 use crate::case::{Draft, Graph, Lists, LoopRecord, Rules};
 use crate::machine::{Geometry, Shape};
 use crate::random::Random;
@@ -12,9 +13,8 @@ pub fn braid(random: &mut Random, rules: &dyn Rules) -> Draft {
     let geometry = Geometry::read(policy, ways, 1).expect("fewer ways are in range as well");
     let nodes = strands(random, ways.into());
     let loops = two_loops(random, nodes.len() as u16);
-    let forward = (1..nodes.len() as u16).map(|node| (node - 1, node));
     let back = loops.iter().map(|record| (record.last, record.first));
-    let mut edges: Vec<(u16, u16)> = forward.chain(back).collect();
+    let mut edges: Vec<(u16, u16)> = steps(nodes.len() as u16).chain(back).collect();
     edges.sort();
     let lists = Lists { nodes, edges, loops };
     let facts = facts::facts(random, geometry, &Graph::new(&lists), rules, 200);

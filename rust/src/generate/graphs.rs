@@ -1,9 +1,10 @@
-//! Random graphs that keep rules 6 to 10, with loops nested as deep as asked.
+//! Random graphs that keep rules 6 to 10 and 26, with loops nested as deep as asked.
 
 use super::cases::Plan;
 use crate::case::{Graph, Lists, LoopRecord, LARGEST, LARGEST_BOUND};
 use crate::machine::NONE;
 use crate::random::Random;
+use std::collections::BTreeSet;
 
 /// How far ahead a forward edge may lead.
 const AHEAD: usize = 12;
@@ -24,7 +25,26 @@ pub fn lists(random: &mut Random, plan: &Plan, blocks: &[u16]) -> Lists {
     let mut lists = Lists { nodes, edges: Vec::new(), loops };
     temper(&mut lists);
     lists.edges = edges(random, plan, &Graph::new(&lists));
+    enliven(&mut lists);
     lists
+}
+
+/// An edge from each node to the next.
+pub fn steps(n: u16) -> impl Iterator<Item = (u16, u16)> {
+    (1..n).map(|node| (node - 1, node))
+}
+
+/// To each node that no edge leads to from a live one it leads one from the node before. It keeps rule 8: a loop that
+/// holds a node and does not begin there holds the node before as well.
+pub fn enliven(lists: &mut Lists) {
+    let mut live = BTreeSet::from([0]);
+    for node in 1..lists.nodes.len() as u16 {
+        if !lists.edges.iter().any(|&(u, v)| v == node && live.contains(&u)) {
+            lists.edges.push((node - 1, node));
+        }
+        live.insert(node);
+    }
+    lists.edges.sort();
 }
 
 /// Loops within the range, outer ones first: an inner loop begins after its outer loop's header, so headers differ.
@@ -80,7 +100,13 @@ fn edges(random: &mut Random, plan: &Plan, graph: &Graph) -> Vec<(u16, u16)> {
             }
         }
     }
+    // Room is left for an edge from each node to the next.
+    let mut room = usize::from(LARGEST[1]) - (n - 1);
     edges.sort();
-    edges.truncate(LARGEST[1].into());
+    edges.retain(|&(u, v)| {
+        let kept = v == u + 1 || room > 0;
+        room -= usize::from(kept && v != u + 1);
+        kept
+    });
     edges
 }

@@ -5,7 +5,7 @@ pub mod cases;
 pub mod damage;
 pub mod evidence;
 mod facts;
-mod graphs;
+pub mod graphs;
 pub mod states;
 pub mod traces;
 

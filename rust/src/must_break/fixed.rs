@@ -2,6 +2,7 @@
 
 use super::Break;
 use crate::case::{Draft, FactRecord, Lists, LoopRecord, Row, WHOLE_GRAPH};
+use crate::generate::graphs::steps;
 use crate::machine::SetState;
 
 /// The block that each file's fact is about.
@@ -18,8 +19,7 @@ fn blocks(list: &[u16]) -> Row {
 
 /// Nodes one behind the other, without loops, and one fact over the whole graph; the walk goes through all of them.
 fn chain((policy, ways): (u8, u8), nodes: &[u16], limit: u16, rows: &[Row], start: SetState) -> Break {
-    let edges = (1..nodes.len() as u16).map(|node| (node - 1, node)).collect();
-    let lists = Lists { nodes: nodes.to_vec(), edges, loops: Vec::new() };
+    let lists = Lists { nodes: nodes.to_vec(), edges: steps(nodes.len() as u16).collect(), loops: Vec::new() };
     let rows = rows.iter().map(Row::record).collect();
     let facts = vec![FactRecord { scope: WHOLE_GRAPH, block: B, limit, rows }];
     Break {

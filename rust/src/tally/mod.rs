@@ -1,9 +1,11 @@
 //! How often each refusal was seen, and where.
 
+pub mod dead;
 pub mod seconds;
 
 use crate::case::{claimed_numbers, Draft};
 use crate::pipe::{Answer, Body, Request};
+use dead::Dead;
 use seconds::Seconds;
 use std::collections::BTreeMap;
 
@@ -20,6 +22,7 @@ pub struct Tally {
     /// By operation and refusal number; number 0 stands for requests that were not refused.
     seen: BTreeMap<(u8, u8), Places>,
     pub seconds: Seconds,
+    pub dead: Dead,
     pub accesses: u64,
     pub misses: u64,
 }
@@ -37,8 +40,8 @@ fn extent(request: &Request, number: u8) -> Option<(u64, u64)> {
     match number {
         6 | 8 | 9 => Some((0, edges)),
         7 => Some((0, loops)),
-        // Node 0 is in one loop at the most, and one loop's bound is no count too large.
-        10 => Some((1, nodes)),
+        // Node 0 is in one loop at the most, and one loop's bound is no count too large; and it is never dead.
+        10 | 26 => Some((1, nodes)),
         // The first fact has no previous one.
         13 => Some((1, facts)),
         11..=18 | 24 | 25 => Some((0, facts)),
@@ -71,6 +74,9 @@ impl Tally {
         if let Some((refusal, draft)) = two_places.and_then(|refusal| Some((refusal, lists(request)?))) {
             self.seconds.add(&draft, refusal);
         }
+        if let Some(draft) = answer.refusal.filter(|refusal| refusal.number == 26).and_then(|_| lists(request)) {
+            self.dead.add(&draft);
+        }
         if let (Request::Trace { blocks, .. }, None, Body::Trace { misses, .. }) =
             (request, answer.refusal, &answer.body)
         {
@@ -102,7 +108,7 @@ impl Tally {
     pub fn demand(&self, operation: u8, numbers: impl IntoIterator<Item = u8>, at_least: u64) -> Result<(), String> {
         for number in numbers {
             let places = self.get(operation, number);
-            let placed = matches!((operation, number), (5 | 6, 6..=18 | 24 | 25) | (4, 21));
+            let placed = matches!((operation, number), (5 | 6, 6..=18 | 24..=26) | (4, 21));
             let fewest = places.first.min(places.middle).min(places.last);
             if places.count < at_least || placed && fewest * 10 < at_least {
                 return Err(format!(

@@ -1,7 +1,8 @@
-//! Faults of edges, loops and counts: rules 6 to 10.
+//! Faults of edges, loops and counts: rules 6 to 10, and 26.
 
 use super::Spot;
 use crate::case::{Graph, Lists, LoopRecord};
+use crate::generate::graphs::enliven;
 use crate::random::Random;
 
 /// The lists keep rules 6 and 7, unless the fault is to be one of these.
@@ -11,6 +12,7 @@ pub fn damage(random: &mut Random, lists: &mut Lists, rule: u8, spot: Spot) {
         7 => spoil_loop(random, lists, spot),
         8 => add_edge(random, lists, spot, |graph, u, v| graph.enters_beside_header(u, v)),
         9 => add_edge(random, lists, spot, |graph, u, v| graph.returns_to_no_header(u, v)),
+        26 => cut_off(random, lists, spot),
         _ => swell(random, lists, spot),
     }
 }
@@ -84,6 +86,30 @@ fn add_edge(random: &mut Random, lists: &mut Lists, spot: Spot, bad: fn(&Graph, 
     lists.edges.sort();
 }
 
+/// Rule 26: nothing leads to the node any more, or nothing but what it leads to itself. What it led to alone is dead with
+/// it. Node 0 is never dead, so the first place is node 1.
+fn cut_off(random: &mut Random, lists: &mut Lists, spot: Spot) {
+    let n = lists.nodes.len();
+    let headers: Vec<u16> = lists.loops.iter().map(|record| record.first).filter(|&first| first > 0).collect();
+    if n < 2 {
+        return;
+    }
+    let node = match random.below(3) {
+        0 if !headers.is_empty() => headers[spot.index(random, headers.len())],
+        _ => 1 + spot.index(random, n - 1) as u16,
+    };
+    match random.below(3) {
+        // The loop that it heads goes round by itself.
+        0 | 1 => lists.edges.retain(|&(u, v)| v != node || u >= node),
+        _ => lists.edges.retain(|&(u, v)| v != node && u != node),
+    }
+    if random.chance(30) {
+        // Dead code that leads on to live code, or to dead.
+        let last = random.within(node.into()..=n - 1) as u16;
+        lists.edges.retain(|&(u, v)| !(node..=last).contains(&v) || u >= node);
+    }
+}
+
 /// Rule 10: two loops whose bounds together are too large, the inner one from the chosen node on. A node is in two
 /// loops only if it is not the header of the outer one, so the first place is node 1.
 fn swell(random: &mut Random, lists: &mut Lists, spot: Spot) {
@@ -106,4 +132,5 @@ fn swell(random: &mut Random, lists: &mut Lists, spot: Spot) {
         let (u, v) = ends(edge);
         !graph.enters_beside_header(u, v) && !graph.returns_to_no_header(u, v)
     });
+    enliven(lists);
 }

@@ -12,8 +12,9 @@ use crate::random::Random;
 pub use bytes::scatter;
 pub use content::{spoil, stir, WRITTEN};
 
-/// Every rule that a check can find broken: 20 is about the lent list, and 17, 24 and 25 are of one place in the order.
-pub const RULES: [u8; 22] = [1, 2, 3, 4, 5, 6, 7, 8, 9, 10, 11, 12, 13, 14, 15, 16, 17, 24, 25, 18, 19, 20];
+/// Every rule that a check can find broken, in its order: but 20, which is about the lent list, and 17, 24 and 25, which
+/// are of one place.
+pub const RULES: [u8; 23] = [1, 2, 3, 4, 5, 6, 7, 8, 9, 26, 10, 11, 12, 13, 14, 15, 16, 17, 24, 25, 18, 19, 20];
 
 /// Where among several the fault shall lie.
 #[derive(Clone, Copy, Debug, PartialEq)]
@@ -45,7 +46,7 @@ pub fn damage(random: &mut Random, draft: &Draft, rules: &[u8]) -> (Vec<u8>, usi
     for &rule in &rules {
         let spot = random.pick(&Spot::ALL);
         match rule {
-            6..=10 => graph::damage(random, &mut draft.lists, rule, spot),
+            6..=10 | 26 => graph::damage(random, &mut draft.lists, rule, spot),
             12..=14 | 16..=18 | 24 | 25 => facts::damage(random, &mut draft, rule, spot),
             _ => {}
         }

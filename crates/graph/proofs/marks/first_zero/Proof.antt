@@ -7,8 +7,8 @@ use borrow.Author.Tests.{eq-eqb, ne-eqb}
 use lib.Dec.{eqb}
 use lib.ListN.{getD}
 use Rattle.paper.proofs.Least.{Passed, passed-start, passed-more, least-found, least-end}
-use Rattle.graph.proofs.counts.first_zero.Statement.{statement}
-use Rattle.graph.proofs.counts.first_zero.Tie as tie
+use Rattle.graph.proofs.marks.first_zero.Statement.{statement}
+use Rattle.graph.proofs.marks.first_zero.Tie as tie
 
 abbrev Inv-loop : tie.InvT-loop
 Inv-loop table n v₀ v = Passed (λ k. eqb (getD table k 0) 0) n v
