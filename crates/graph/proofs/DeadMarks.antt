@@ -5,9 +5,10 @@ use native.Mathlib.Numerals.{add-one}
 use native.Mathlib.Decide.{ℕ-discrete}
 use mathlib.Core.Path.{_≡_, refl, sym, _∙_, ap}
 use mathlib.Core.Logic.{_≢_, inl, inr, ⊎-elim}
-use mathlib.Core.Bool.{Bool, true, false, not}
+use mathlib.Core.Bool.{Bool, true, false, not, _||_}
 use mathlib.Core.List.{List}
 use lib.Dec.{eqb}
+use lib.Bits.{bitOr}
 use lib.ListN.{length, getD, set, length-set}
 use lib.Seq.{getD-set-same, getD-set-other}
 use Rattle.paper.specs.Lists.{bit, least, some}
@@ -15,18 +16,20 @@ use Rattle.paper.specs.Cases.{Case}
 use Rattle.paper.specs.Graphs.{badEntry, badReturn, reached, dead}
 use Rattle.paper.specs.Known.{Shaped}
 use Rattle.paper.proofs.Least.{least-same, none-some}
-use Rattle.paper.proofs.Says.{says-bool, says-is, says-false, says-same}
+use Rattle.paper.proofs.Says.{says-bool, says-or, says-is, says-false, says-same}
 use Rattle.graph.specs.Filled.{Filled, Holds}
 use Rattle.graph.specs.Reaching.{reachedTo}
-use Rattle.graph.proofs.Reaching.{Marked, turn-says, first-says, reached-marks}
+use Rattle.graph.proofs.Reaching.{turn-says, first-says, reached-marks}
 
 -- the table after i edges
 abbrev pub Marks : Case → ℕ → List ℕ → Type 0
 Marks e i table = Holds (λ v. bit (reachedTo e v i)) (e .nodes) table
 
-bit-true : (b : Bool) → bit b ≡ 1 → b ≡ true
-bit-true true h = refl
-bit-true false h = absurd (omega arith)
+or-bit : (a b : Bool) → bitOr (bit a) (bit b) ≡ bit (a || b)
+or-bit true true = refl
+or-bit true false = refl
+or-bit false true = refl
+or-bit false false = refl
 
 module _ (e : Case) (table : List ℕ) where
   -- node 0 alone
@@ -42,29 +45,30 @@ module _ (e : Case) (table : List ℕ) where
       }
 
   -- the turn of edge i, from u to v
-  module _ (i u v : ℕ) (w : Marks e i table) (from : u ≡ e .from i) (to : v ≡ e .to i) (start : u < e .nodes) where
-    -- where it does not mark x, x is marked or not as before
-    kept : (x : ℕ) → ¬ (Marked e u i × (x ≡ v)) → reachedTo e x (i + 1) ≡ reachedTo e x i
-    kept x n =
-        rw add-one
-        (says-same (⊎-elim (λ m. m) (λ m. absurd (n (rw from (m .0), m .1 ∙ sym to)))) inl (turn-says e x i) (says-bool (reachedTo e x i)))
+  module _ (i u v : ℕ) (w : Marks e i table) (from : u ≡ e .from i) (to : v ≡ e .to i) (start : u < e .nodes) (end : v < e .nodes) where
+    end-marked : reachedTo e v (i + 1) ≡ (reachedTo e v i || reachedTo e u i)
+    end-marked =
+        rw (add-one, from)
+        (says-same (⊎-elim inl (λ m. inr (m .0))) (⊎-elim inl (λ m. inr (m, to))) (turn-says e v i) (says-or (says-bool _) (says-bool (reachedTo e (e .from i) i))))
 
-    pub marks-more : getD table u 0 ≡ 1 → v < e .nodes → Marks e (i + 1) (set table v 1)
-    marks-more h l =
+    -- nodes that it does not lead to are marked or not as before
+    others-kept : (x : ℕ) → x ≢ v → reachedTo e x (i + 1) ≡ reachedTo e x i
+    others-kept x n = rw add-one (says-same (⊎-elim (λ m. m) (λ m. absurd (n (m .1 ∙ sym to)))) inl (turn-says e x i) (says-bool (reachedTo e x i)))
+
+    pub marks-more : Marks e (i + 1) (set table v (bitOr (getD table v 0) (getD table u 0)))
+    marks-more =
         record {
-          room = omega (arith, w .room, length-set table v 1);
+          room = omega (arith, w .room, length-set table v (bitOr (getD table v 0) (getD table u 0)));
           at = λ x q.
               elim (ℕ-discrete x v) [
-                | yes p ↦ rw (now x p, p) (getD-set-same table v 1 0 (omega (arith, w .room)))
-                | no n ↦ rw (kept x (λ m. n (m .1))) (getD-set-other table v x 1 0 n ∙ w .at x q)
+                | yes p ↦
+                    rw p
+                    (getD-set-same table v _ 0 (omega (arith, w .room))
+                    ∙ rw (w .at v end, w .at u start) (or-bit (reachedTo e v i) (reachedTo e u i))
+                    ∙ sym (ap bit end-marked))
+                | no n ↦ rw (others-kept x n) (getD-set-other table v x _ 0 n ∙ w .at x q)
               ];
         }
-      where
-        now : (x : ℕ) → x ≡ v → reachedTo e x (i + 1) ≡ true
-        now x p = rw add-one (says-is (turn-says e x i) (inr (rw (sym from) (bit-true _ (sym (w .at u start) ∙ h)), p ∙ to)))
-
-    pub marks-same : getD table u 0 ≢ 1 → Marks e (i + 1) table
-    marks-same n = record { room = w .room; at = λ x q. rw (kept x (λ m. n (w .at u start ∙ ap bit (m .0)))) (w .at x q) }
 
 -- the least 0 of the table is the least dead node
 pub least-dead : (e : Case) → Shaped e → some (badEntry e) (e .edges) ≡ false → some (badReturn e) (e .edges) ≡ false → (table : List ℕ) → Marks e (e .edges) table →

@@ -27,9 +27,7 @@ fn mark_reached(file: &[u8], trailer: Trailer, table: &mut [u32])
     while i < trailer.edges {
         let u = layout::from_at(file, trailer, i);
         let v = layout::to_at(file, trailer, i);
-        if table[u as usize] == 1 {
-            table[v as usize] = 1;
-        }
+        table[v as usize] = table[v as usize] | table[u as usize];
         i += 1;
     }
 }

@@ -1,15 +1,14 @@
--- The table holds the marks of the first i edges (`Marks`): f is where all nodes were unmarked, o where the loop over the edges is.
+-- The table holds the marks of the first i edges (`Marks`), and an edge's turn takes its start's mark over to its end (`marks-more`).
 use Prim.Native.Nat.{_-_, _≤_, _<_}
 use native.Mathlib.Omega.{arith}
-use mathlib.Core.Path.{_≡_, refl, _∙_, ap}
-use mathlib.Core.Logic.{⊎-elim}
+use mathlib.Core.Path.{_≡_, refl, _∙_}
 use borrow.Author.Needs.{needs}
 use lib.ListN.{length, length-set}
 use Rattle.paper.specs.Lists.{bit}
 use Rattle.paper.specs.Files.{caseOf}
 use Rattle.graph.specs.Reaching.{reachedTo}
 use Rattle.graph.proofs.Filling.{holds-end}
-use Rattle.graph.proofs.DeadMarks.{Marks, marks-start, marks-more, marks-same}
+use Rattle.graph.proofs.DeadMarks.{Marks, marks-start, marks-more}
 use Rattle.graph.proofs.dead.mark_reached.Statement.{statement}
 use Rattle.graph.proofs.dead.mark_reached.Tie as tie
 
@@ -50,15 +49,10 @@ loop-again : tie.Need-loop-again Inv-loop μ-loop
 unfolding caseOf
 loop-again c =
     let d = c .before .before in
-    let o = turn d .loop in
-    let from = d .before .from-at .ensures in
-    let to = d .to-at .ensures in (
+    let o = turn d .loop in (
       omega arith,
-      ⊎-elim (λ m. ap length (m .1) ∙ length-set (o .table) _ 1 ∙ o .inv .1) (λ m. ap length (m .1) ∙ o .inv .1) (c .if2 .came),
-      ⊎-elim
-          (λ m. rw (m .1) (marks-more _ _ _ _ _ (o .inv .2) from to (ends d .0) (omega (arith, m .0 .taken)) (ends d .1)))
-          (λ m. rw (m .1) (marks-same _ _ _ _ _ (o .inv .2) from to (ends d .0) (m .0 .left)))
-          (c .if2 .came),
+      length-set (o .table) _ _ ∙ o .inv .1,
+      marks-more _ _ _ _ _ (o .inv .2) (d .before .from-at .ensures) (d .to-at .ensures) (ends d .0) (ends d .1),
     )
 
 same-length : tie.Need-same-length Inv-loop μ-loop
@@ -85,6 +79,8 @@ mark-reached-spec =
     loop-holds
     (λ c κs. search needs) (λ c κs. search needs) (λ c. search needs) (λ c. search needs)
     (λ c. omega (arith, ends (c .before)))
+    (λ c. search needs) (λ c. search needs)
+    (λ c. omega (arith, ends (c .before .before)))
     (λ c. search needs) (λ c. search needs)
     (λ c. omega (arith, ends (c .before .before)))
     (λ c. search needs) (λ c. search needs)
