@@ -52,6 +52,19 @@ uint8_t bolgverk_write(uint8_t policy, uint8_t ways, uint8_t sets, const uint16_
                        const uint16_t *rows, size_t rows_length, uint8_t *out, size_t out_length, uint64_t *length, uint64_t *place,
                        uint64_t *second);
 
+/* Finds the smallest age limit of a block in a scope for which evidence exists, and the evidence: what bolgverk_write takes as a fact's rows and
+ * bolgverk_check accepts. The file's own facts, and whatever else stands between its loops and the trailer, are not looked at.
+ *   file, file_length        the file's bytes; only read
+ *   scope                    a loop's number, or 65,535 for the whole graph
+ *   block                    the block
+ *   rows, rows_length        gets eight numbers for each node of the scope, if a limit is found; numbers past them stay as they are
+ *   limit                    gets the limit, or 0 where no limit up to the ways has evidence, if nothing is refused; rows then stays as it is
+ *   place                    gets the refusal's place, 0 if nothing is refused; always written
+ * Returns 0, or the refusal's number: 1 to 10 (26 after 9) as the check has them, then 12 where scope or block is out of range, 14, and 20
+ * where rows_length is below eight numbers for each node of the scope. The place of these last three is 0. */
+uint8_t bolgverk_find(const uint8_t *file, size_t file_length, uint16_t scope, uint16_t block, uint16_t *rows, size_t rows_length,
+                      uint16_t *limit, uint64_t *place);
+
 /* Runs a trace of block accesses from empty sets.
  *   policy, ways, sets       the cache
  *   blocks, blocks_length    the accesses in order; only read
