@@ -16,6 +16,8 @@ use Rattle.paper.specs.declared.SetAnswer.{SetAnswer}
 use Rattle.paper.specs.declared.SetAnswer.the-variants as SetAnswers
 use Rattle.paper.specs.declared.WriteAnswer.{WriteAnswer}
 use Rattle.paper.specs.declared.WriteAnswer.the-variants as WriteAnswers
+use Rattle.paper.specs.declared.FindAnswer.{FindAnswer}
+use Rattle.paper.specs.declared.FindAnswer.the-variants as FindAnswers
 
 -- "The result gets a second place."
 abbrev pub refuseAt : ℕ → ℕ → ℕ → Refusal
@@ -66,6 +68,12 @@ toldSet (SetAnswers.Refused r) = tellsWhy r
 abbrev pub toldWrite : WriteAnswer → Told
 toldWrite (WriteAnswers.Written n) = tells (n ∷ [])
 toldWrite (WriteAnswers.Refused r) = tellsWhy r
+
+-- the limit that is found, no value where there is none; the rows are in the lent list
+abbrev pub toldFind : FindAnswer → Told
+toldFind (FindAnswers.Found l) = tells (l ∷ [])
+toldFind FindAnswers.None = tells []
+toldFind (FindAnswers.Refused r) = tellsWhy r
 
 -- The value told, or `before` where none is: a number that is written only where nothing is refused.
 abbrev pub valueOr : ℕ → Told → ℕ

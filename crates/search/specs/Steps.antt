@@ -1,0 +1,78 @@
+-- One step of the search: what an edge hands on is put into the row of its end. A row is eight numbers by value, as rows are lent: the number and seven slots.
+use Prim.Native.Nat.{ℕ, zero, suc, min, max}
+use mathlib.Core.Bool.{Bool, cond, not, _&&_, _||_}
+use mathlib.Core.List.{List}
+use lib.Dec.{eqb, ltb, leb}
+use lib.ListN.{getD}
+use Rattle.paper.specs.Machines.{none}
+use Rattle.paper.specs.Cases.{Row, Fact, Case, sameSet}
+use Rattle.lines.specs.Lines.{eight}
+
+abbrev pub numberOf : List ℕ → ℕ
+numberOf r = getD r 0 0
+
+abbrev pub slotOf : List ℕ → ℕ → ℕ
+slotOf r k = getD r (suc k) 0
+
+-- the paper's row
+abbrev pub rowBy : List ℕ → Row
+rowBy r = record { number = numberOf r; slot = slotOf r }
+
+-- A row without blocks: all slots are free.
+unfoldable pub plainAt : ℕ → ℕ → ℕ
+plainAt n zero = n
+plainAt n (suc k) = none
+
+unfoldable pub plain : ℕ → List ℕ
+plain n = eight (plainAt n)
+
+-- c stands in one of the slots
+unfoldable pub among : List ℕ → ℕ → Bool
+among r c =
+    eqb (slotOf r 0) c
+    || (eqb (slotOf r 1) c
+    || (eqb (slotOf r 2) c || (eqb (slotOf r 3) c || (eqb (slotOf r 4) c || (eqb (slotOf r 5) c || eqb (slotOf r 6) c)))))
+
+-- c put in its place: a free slot is greater than every block, so each slot is the middle one of c, the slot before it and itself.
+unfoldable pub grownAt : List ℕ → ℕ → ℕ → ℕ
+grownAt r c zero = suc (numberOf r)
+grownAt r c (suc zero) = min (slotOf r 0) c
+grownAt r c (suc (suc k)) = max (slotOf r k) (min (slotOf r (suc k)) c)
+
+unfoldable pub grown : List ℕ → ℕ → List ℕ
+grown r c = eight (grownAt r c)
+
+-- b has been fetched
+unfoldable pub opened : List ℕ → List ℕ
+opened s = cond (eqb (numberOf s) 9) (plain 0) s
+
+-- "a set that reaches k blocks becomes 'many' for good": a row for the limit l
+unfoldable pub lowered : ℕ → List ℕ → List ℕ
+lowered l r = cond (ltb (numberOf r) 8 && leb l (numberOf r)) (plain 8) r
+
+module _ (k : ℕ) where
+  -- one block more, where k blocks are "many"
+  unfoldable pub put : List ℕ → ℕ → List ℕ
+  put r c = cond (eqb (numberOf r) 8 || among r c) r (cond (ltb (suc (numberOf r)) k) (grown r c) (plain 8))
+
+  -- the blocks in the first n slots of r put into s
+  unfoldable pub putSlots : List ℕ → List ℕ → ℕ → List ℕ
+  putSlots r s zero = s
+  putSlots r s (suc n) = put (putSlots r s n) (slotOf r n)
+
+module _ (e : Case) (t : Fact) where
+  -- "u's block where u fetches one of b's set"
+  unfoldable pub counts : ℕ → Bool
+  counts x = not (eqb x none) && sameSet e x (t .block)
+
+  -- a set's blocks are handed on, and the block x that is fetched
+  unfoldable pub handed : ℕ → List ℕ → List ℕ → List ℕ
+  handed x r s =
+      let all = putSlots (t .limit) r s (numberOf r) in
+      cond (counts x) (put (t .limit) all x) all
+
+  -- For an edge u to v inside the scope, where u fetches x and has row r, and v has row s: v's new row.
+  unfoldable pub stepped : ℕ → List ℕ → List ℕ → List ℕ
+  stepped x r s =
+      cond (eqb (numberOf s) 8) s
+      (cond (eqb x (t .block)) (opened s) (cond (eqb (numberOf r) 9) s (cond (eqb (numberOf r) 8) (plain 8) (handed x r (opened s)))))
