@@ -49,3 +49,5 @@ pub mod OneFile
 pub mod OneAccepted
 pub mod OneBytes
 pub mod Exact
+pub mod Justified
+pub mod LeastLimit
