@@ -1,6 +1,6 @@
 -- One step of the search: what an edge hands on is put into the row of its end. A row is eight numbers by value, as rows are lent: the number and seven slots.
 use Prim.Native.Nat.{ℕ, zero, suc, min, max}
-use mathlib.Core.Bool.{Bool, cond, not, _&&_, _||_}
+use mathlib.Core.Bool.{Bool, false, cond, not, _&&_, _||_}
 use mathlib.Core.List.{List}
 use lib.Dec.{eqb, ltb, leb}
 use lib.ListN.{getD}
@@ -26,18 +26,22 @@ plainAt n (suc k) = none
 unfoldable pub plain : ℕ → List ℕ
 plain n = eight (plainAt n)
 
--- c stands in one of the slots
-unfoldable pub among : List ℕ → ℕ → Bool
-among r c =
-    eqb (slotOf r 0) c
-    || (eqb (slotOf r 1) c
-    || (eqb (slotOf r 2) c || (eqb (slotOf r 3) c || (eqb (slotOf r 4) c || (eqb (slotOf r 5) c || eqb (slotOf r 6) c)))))
+-- c stands in one of the first n slots, and in one of the seven
+unfoldable pub amongTo : List ℕ → ℕ → ℕ → Bool
+amongTo r c zero = false
+amongTo r c (suc n) = amongTo r c n || eqb (slotOf r n) c
 
--- c put in its place: a free slot is greater than every block, so each slot is the middle one of c, the slot before it and itself.
+unfoldable pub among : List ℕ → ℕ → Bool
+among r c = amongTo r c 7
+
+-- c put in its place: a free slot is greater than every block, so each slot becomes the middle one of c, the slot before it and itself.
+unfoldable pub placed : (ℕ → ℕ) → ℕ → ℕ → ℕ
+placed old c zero = min (old 0) c
+placed old c (suc k) = max (old k) (min (old (suc k)) c)
+
 unfoldable pub grownAt : List ℕ → ℕ → ℕ → ℕ
 grownAt r c zero = suc (numberOf r)
-grownAt r c (suc zero) = min (slotOf r 0) c
-grownAt r c (suc (suc k)) = max (slotOf r k) (min (slotOf r (suc k)) c)
+grownAt r c (suc k) = placed (slotOf r) c k
 
 unfoldable pub grown : List ℕ → ℕ → List ℕ
 grown r c = eight (grownAt r c)
