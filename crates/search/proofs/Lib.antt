@@ -1,3 +1,5 @@
 pub mod Placing
 pub mod Ranks
 pub mod Justly
+pub mod Settling
+pub mod Tables

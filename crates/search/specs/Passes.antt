@@ -15,6 +15,10 @@ use Rattle.search.specs.Steps.{numberOf, stepped, lowered}
 unfoldable pub tableRow : List ℕ → ℕ → List ℕ
 tableRow table j = eight (λ i. getD table (perRow * j + i) 0)
 
+-- the table with r as its row j
+unfoldable pub withRow : List ℕ → ℕ → List ℕ → List ℕ
+withRow table j r = sets table (perRow * j) (eight (λ i. getD r i 0))
+
 module _ (e : Case) (t : Fact) where
   -- where node v's row stands, and the row
   abbrev pub rowIndex : ℕ → ℕ
@@ -36,7 +40,7 @@ module _ (e : Case) (t : Fact) where
   changes table i = within i && not (eqb (numberOf (steppedAt table i)) (numberOf (nodeRow table (e .to i))))
 
   unfoldable pub afterEdge : List ℕ → ℕ → List ℕ
-  afterEdge table i = cond (changes table i) (sets table (perRow * rowIndex (e .to i)) (steppedAt table i)) table
+  afterEdge table i = cond (changes table i) (withRow table (rowIndex (e .to i)) (steppedAt table i)) table
 
   -- the table after the first i edges, and whether one of them changed it
   unfoldable pub passTo : List ℕ → ℕ → List ℕ
