@@ -3,3 +3,4 @@ pub mod Ranks
 pub mod Justly
 pub mod Settling
 pub mod Tables
+pub mod Searching

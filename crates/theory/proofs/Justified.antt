@@ -2,7 +2,7 @@
 use Prim.Native.Nat.{ℕ, _<_}
 use native.Mathlib.Omega.{arith}
 use native.Mathlib.Decide.{ℕ-discrete}
-use mathlib.Core.Path.{_≡_}
+use mathlib.Core.Path.{_≡_, sym, _∙_}
 use mathlib.Core.Logic.{_≢_, _↔_}
 use mathlib.Core.Bool.{true}
 use Rattle.paper.specs.Cases.{Row, Fact, Case, inside, scopeOf}
@@ -14,6 +14,7 @@ use Rattle.paper.proofs.Meaning.{Holds, SoundRow}
 use Rattle.theory.proofs.Clear.{clear, walk}
 use Rattle.theory.proofs.Blocks.{blocks, blocks-rising, mem-holds}
 use Rattle.theory.proofs.Decided.{Reached, reached-from}
+use Rattle.theory.proofs.SameRow.{Same, same-back, same-holds, same-sound}
 use Rattle.theory.proofs.Needed.{Closed, begins, has}
 
 module _ (e : Case) (t : Fact) where
@@ -32,6 +33,16 @@ module _ (e : Case) (t : Fact) where
     pub since : r .number ≢ 9 → Reached e t v
     pub only : (c : ℕ) → Holds r c → Gathered e t v c
     pub many : r .number ≡ 8 → AtLeast e t (t .limit) v
+
+  -- wherever the row is written
+  pub same-justified : (v : ℕ) (r s : Row) → Same r s → Justified v r → Justified v s
+  same-justified v r s w j =
+      record {
+        row = same-sound e t (t .row) r s w (j .row);
+        since = λ n. j .since (λ p. n (w .number ∙ p));
+        only = λ c h. j .only c (same-holds s r (same-back r s w) c h);
+        many = λ p. j .many (sym (w .number) ∙ p);
+      }
 
   -- as many as the row holds are gathered
   pub held-gathered : (v : ℕ) (r : Row) → Justified v r → AtLeast e t (held r) v

@@ -13,6 +13,9 @@ pub record Same (r s : Row) : Type 0 where
   pub number : s .number ≡ r .number
   pub slot : (k : ℕ) → k < 7 → s .slot k ≡ r .slot k
 
+pub same-back : (r s : Row) → Same r s → Same s r
+same-back r s w = record { number = sym (w .number); slot = λ k h. sym (w .slot k h) }
+
 pub same-held : (r s : Row) → Same r s → held s ≡ held r
 unfolding held
 same-held r s w = ap (λ (n : ℕ). cond (ltb n 8) n 0) (w .number)
