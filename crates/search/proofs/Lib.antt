@@ -4,3 +4,6 @@ pub mod Justly
 pub mod Settling
 pub mod Tables
 pub mod Searching
+pub mod Limits
+pub mod Found
+pub mod Outcomes

@@ -108,9 +108,9 @@ byte-at [] h p = omega arith
 byte-at (x ∷ f) h zero = h x (List·Memᴰ·head refl)
 byte-at (x ∷ f) h (suc p) = byte-at f (λ c m. h c (List·Memᴰ·tail m)) p
 
-block-small : (f : List ℕ) → Bytes f → (v : ℕ) → nodeAt f v < 65536
+pub block-small : (f : List ℕ) → ((p : ℕ) → getD f p 0 < 256) → (v : ℕ) → nodeAt f v < 65536
 unfolding nodeAt u16At
-block-small f h v = omega (arith, byte-at f h (2 * v), byte-at f h (2 * v + 1))
+block-small f h v = omega (arith, h (2 * v), h (2 * v + 1))
 
 -- The same of a file that passes 1 to 10 and 26 and an otherwise sound fact, with rows in a list of their own.
 pub rows-exact : (f : List ℕ) → Bytes f → Passes (wholeFileRules f) → (t : Fact) → badHead (readCase f) t ≡ false →
@@ -118,7 +118,7 @@ pub rows-exact : (f : List ℕ) → Bytes f → Passes (wholeFileRules f) → (t
 unfolding caseOf
 rows-exact f bytes passes t head =
     let h = head-sound (readCase f) t head in
-    evidence-exact (readCase f) t (block-small f bytes) (omega (arith, h .high, layout-kept f _ passes .0 .ways-high)) (h .low)
+    evidence-exact (readCase f) t (block-small f (byte-at f bytes)) (omega (arith, h .high, layout-kept f _ passes .0 .ways-high)) (h .low)
 
 -- the head of an otherwise sound fact fits its 16-bit numbers
 head-bytes : (f : List ℕ) → Bytes f → Passes (wholeFileRules f) → (t : Fact) → badHead (readCase f) t ≡ false → unfetched (readCase f) t ≡ false →
@@ -129,7 +129,7 @@ head-bytes f bytes passes t head found =
     let k = layout-kept f _ passes .0 in
     let w = fetched (readCase f) t found in
     let scope : t .scope < 65536 = elim (ℕ-discrete (t .scope) none) [ yes p ↦ omega arith | no q ↦ omega (arith, h .scope q, k .loops-high) ] in
-    (scope, omega (arith, w .2, block-small f bytes (w .0)), omega (arith, h .high, k .ways-high))
+    (scope, omega (arith, w .2, block-small f (byte-at f bytes) (w .0)), omega (arith, h .high, k .ways-high))
 
 pub file-exact : (f : List ℕ) → EvidenceExact f
 file-exact f bytes passes t head found room long =

@@ -1,8 +1,8 @@
 -- The least limit with evidence, and rows that pass for it, read off a table that keeps the edge rule and is justified: one more than the most at a node that fetches b.
-use Prim.Native.Nat.{ℕ, zero, suc, _-_, _≤_, _<_}
+use Prim.Native.Nat.{ℕ, suc, _-_, _≤_, _<_}
 use native.Mathlib.Omega.{arith}
 use native.Mathlib.Decide.{ℕ-discrete, decLt}
-use mathlib.Core.Path.{_≡_, refl}
+use mathlib.Core.Path.{_≡_, refl, sym, _∙_}
 use mathlib.Core.Logic.{_≢_, _↔_}
 use mathlib.Core.Bool.{Bool, true, cond, _&&_}
 use mathlib.Core.List.{List}
@@ -12,17 +12,16 @@ use Rattle.paper.specs.Facts.{held}
 use Rattle.paper.specs.Rules.{Passes}
 use Rattle.paper.specs.Verdicts.{evidenceRules}
 use Rattle.paper.specs.Demands.{Gathered, withRows}
-use Rattle.paper.specs.Finding.{Arrives, AtLeast, withLimit}
-use Rattle.paper.proofs.Says.{Says, holds, fails, says-lt, says-le, says-and, says-true}
-use Rattle.paper.proofs.GraphLaws.{inside-says}
+use Rattle.paper.specs.Finding.{withLimit, Arrives, AtLeast, RowSays}
+use Rattle.paper.proofs.Says.{Says, holds, fails, says-lt, says-le, says-and, says-true, says-is}
 use Rattle.paper.proofs.TableLaws.{length-table}
-use Rattle.paper.proofs.RowLaws.{held-set, held-other}
+use Rattle.paper.proofs.RowLaws.{held-set, held-other, holds-says, row-law}
 use Rattle.paper.proofs.Meaning.{In, Holds, SoundRow, Carried, EdgeRule}
 use Rattle.theory.proofs.Sorted.{no-longer}
 use Rattle.theory.proofs.Blocks.{blocks, blocks-rising, holds-mem, mem-holds}
 use Rattle.theory.proofs.Enough.{plainRow, plain-sound}
 use Rattle.theory.proofs.Needed.{Closed, has, few}
-use Rattle.theory.proofs.SameRow.{Same, rewritten}
+use Rattle.theory.proofs.SameRow.{Same, rewritten, same-back, same-holds, same-sound}
 use Rattle.theory.proofs.Exact.{rows-pass, rows-few, regathered}
 use Rattle.theory.proofs.Justified.{reached-arrives, Justified, held-gathered, nine-exact, set-exact}
 
@@ -81,13 +80,23 @@ module _ (e : Case) (t : Fact) (l : ℕ) where
     lower-rule : (r′ s′ : Row) → Lowered l r r′ → Lowered l s s′ → EdgeRule e (withLimit t l) x r′ s′
     lower-rule r′ s′ a b = record { after-b = after s′ b; other = other r′ s′ a b }
 
-module _ (e : Case) (t : Fact) (row : ℕ → Row) (closed : Closed e t row) (just : (v : ℕ) → inside (scopeOf e t) v ≡ true → Justified e t v (row v)) where
+module _ (e : Case) (t : Fact) where
   -- these bytes as rows pass for the limit l
   abbrev pub Pass : ℕ → List ℕ → Type 0
   Pass l bytes = Passes (evidenceRules e 0 (withRows e (withLimit t l) bytes))
 
+  -- a node of the scope that fetches b
+  abbrev pub Fetching : ℕ → Type 0
+  Fetching v = (inside (scopeOf e t) v ≡ true) × (e .block v ≡ t .block)
+
+  -- l is one more than the most that is gathered at a node that fetches b, and none of them is "many"
+  pub record Limit (row : ℕ → Row) (l : ℕ) : Type 0 where
+    pub each : (v : ℕ) → Fetching v → (row v .number ≢ 8) × (held (row v) < l)
+    pub met : (v : ℕ) × Fetching v × (l ≡ suc (held (row v)))
+
+module _ (e : Case) (t : Fact) (row : ℕ → Row) (closed : Closed e t row) (just : (v : ℕ) → inside (scopeOf e t) v ≡ true → Justified e t v (row v)) where
   -- rows that pass for the limit l allow fewer than l at a node that fetches b
-  below-limit : (l n v : ℕ) (bytes : List ℕ) → 1 ≤ l → Pass l bytes → inside (scopeOf e t) v ≡ true → e .block v ≡ t .block → AtLeast e t n v → n < l
+  below-limit : (l n v : ℕ) (bytes : List ℕ) → 1 ≤ l → Pass e t l bytes → inside (scopeOf e t) v ≡ true → e .block v ≡ t .block → AtLeast e t n v → n < l
   below-limit l n v bytes o x i p a =
       omega (
         arith,
@@ -95,20 +104,11 @@ module _ (e : Case) (t : Fact) (row : ℕ → Row) (closed : Closed e t row) (ju
         a .many,
       )
 
-  -- a node of the scope that fetches b
-  abbrev pub Fetching : ℕ → Type 0
-  Fetching v = (inside (scopeOf e t) v ≡ true) × (e .block v ≡ t .block)
-
-  -- l is one more than the most that is gathered at a node that fetches b, and none of them is "many"
-  pub record Limit (l : ℕ) : Type 0 where
-    pub each : (v : ℕ) → inside (scopeOf e t) v ≡ true → e .block v ≡ t .block → (row v .number ≢ 8) × (held (row v) < l)
-    pub met : (v : ℕ) × Fetching v × (l ≡ suc (held (row v)))
-
   -- where a node that fetches b is "many", no rows pass for a limit up to k
-  pub none-found : (v : ℕ) → Fetching v → row v .number ≡ 8 → (l : ℕ) (bytes : List ℕ) → 1 ≤ l → l ≤ t .limit → ¬ Pass l bytes
+  pub none-found : (v : ℕ) → Fetching e t v → row v .number ≡ 8 → (l : ℕ) (bytes : List ℕ) → 1 ≤ l → l ≤ t .limit → ¬ Pass e t l bytes
   none-found v f q l bytes o h x = omega (arith, below-limit l (t .limit) v bytes o x (f .0) (f .1) (just v (f .0) .many q))
 
-  module _ (l : ℕ) (is : Limit l) where
+  module _ (l : ℕ) (is : Limit e t row l) where
     pub limit-low : 1 ≤ l
     limit-low = omega (arith, is .met .2)
 
@@ -121,7 +121,7 @@ module _ (e : Case) (t : Fact) (row : ℕ → Row) (closed : Closed e t row) (ju
         ]
 
     -- "the smallest age limit … for which evidence exists"
-    pub limit-least : (m : ℕ) (bytes : List ℕ) → 1 ≤ m → Pass m bytes → l ≤ m
+    pub limit-least : (m : ℕ) (bytes : List ℕ) → 1 ≤ m → Pass e t m bytes → l ≤ m
     limit-least m bytes o x =
         let (v, f, q) = is .met in
         omega (arith, below-limit m (held (row v)) v bytes o x (f .0) (f .1) (held-gathered e t v (row v) (just v (f .0))))
@@ -138,8 +138,8 @@ module _ (e : Case) (t : Fact) (row : ℕ → Row) (closed : Closed e t row) (ju
     few-left v i p = go _ (lowered-is l (row v))
       where
         go : (s : Row) → Lowered l (row v) s → s .number ≢ 8
-        go s (cut a b) q = let h = is .each v i p .1 in omega (arith, held-set (row v) a)
-        go s (kept a) q = is .each v i p .0 q
+        go s (cut a b) q = let h = is .each v (i, p) .1 in omega (arith, held-set (row v) a)
+        go s (kept a) q = is .each v (i, p) .0 q
 
     -- "The rows go through the same check as anyone's.": wherever they are written
     pub limit-passes :
@@ -178,11 +178,17 @@ module _ (e : Case) (t : Fact) (row : ℕ → Row) (closed : Closed e t row) (ju
     set s (cut a b) h = absurd (omega arith)
     set s (kept a) h = set-exact e t row closed just v i h
 
-    pub lowered-nine : (lowered l (row v) .number ≡ 9) ↔ (¬ Arrives e t v)
-    lowered-nine = nine _ (lowered-is l (row v))
-
-    pub lowered-many : (lowered l (row v) .number ≡ 8) ↔ AtLeast e t l v
-    lowered-many = many _ (lowered-is l (row v))
-
-    pub lowered-set : lowered l (row v) .number < 8 → (c : ℕ) → Holds (lowered l (row v)) c ↔ Gathered e t v c
-    lowered-set = set _ (lowered-is l (row v))
+    -- wherever it is written
+    pub lowered-says : (s : Row) → Same (lowered l (row v)) s → RowSays e t l v s
+    lowered-says s w =
+        let is = lowered-is l (row v) in
+        let a = nine _ is in
+        let b = many _ is in
+        record {
+          nine = (λ p. a .0 (sym (w .number) ∙ p), λ n. w .number ∙ a .1 n);
+          many = (λ p. b .0 (sym (w .number) ∙ p), λ g. w .number ∙ b .1 g);
+          set = λ h c.
+              let d = set _ is (rw (w .number) at h) c in
+              (λ p. d .0 (same-holds s _ (same-back _ s w) c (says-true (holds-says s c) p)), λ g. says-is (holds-says s c) (same-holds _ s w c (d .1 g)));
+          sound = row-law e (withLimit t l) s .1 (same-sound e (withLimit t l) (t .row) _ s w (lower-sound e t l _ _ is (just v i .row)));
+        }

@@ -16,6 +16,9 @@ pub record Same (r s : Row) : Type 0 where
 pub same-back : (r s : Row) → Same r s → Same s r
 same-back r s w = record { number = sym (w .number); slot = λ k h. sym (w .slot k h) }
 
+pub same-trans : (r s m : Row) → Same r s → Same s m → Same r m
+same-trans r s m a b = record { number = b .number ∙ a .number; slot = λ k h. b .slot k h ∙ a .slot k h }
+
 pub same-held : (r s : Row) → Same r s → held s ≡ held r
 unfolding held
 same-held r s w = ap (λ (n : ℕ). cond (ltb n 8) n 0) (w .number)
