@@ -51,3 +51,4 @@ pub mod OneBytes
 pub mod Exact
 pub mod Justified
 pub mod LeastLimit
+pub mod FoundOnce
