@@ -18,26 +18,26 @@ use Rattle.search.specs.Steps.{numberOf, rowBy}
 use Rattle.search.specs.Passes.{tableRow, rowIndex, nodeRow, asks, mostTo}
 use Rattle.search.proofs.Searching.{rowsOf, Searched, Settled}
 
+asks-many : (n : ℕ) → n ≡ 8 → asks n ≡ 9
+unfolding asks
+asks-many n p = rw p refl
+
+asks-held : (r : List ℕ) → numberOf r ≢ 8 → numberOf r ≤ 9 → asks (numberOf r) ≡ suc (held (rowBy r))
+unfolding asks
+asks-held r n h =
+    elim (decLt (numberOf r) 8) [
+      | yes l ↦ rw (ne-eqb (numberOf r) 9 (omega arith)) (omega (arith, held-set (rowBy r) l))
+      | no m ↦ rw (eq-eqb (numberOf r) 9 (omega arith)) (omega (arith, held-other (rowBy r) (omega arith)))
+    ]
+
+asks-range : (r : List ℕ) → numberOf r ≤ 9 → (1 ≤ asks (numberOf r)) × (asks (numberOf r) ≤ 9)
+asks-range r h =
+    elim (ℕ-discrete (numberOf r) 8) [
+      | yes p ↦ omega (arith, asks-many (numberOf r) p)
+      | no n ↦ omega (arith, asks-held r n h, held-low (rowBy r))
+    ]
+
 module _ (e : Case) (t : Fact) where
-  asks-many : (n : ℕ) → n ≡ 8 → asks e t n ≡ 9
-  unfolding asks
-  asks-many n p = rw p refl
-
-  asks-held : (r : List ℕ) → numberOf r ≢ 8 → numberOf r ≤ 9 → asks e t (numberOf r) ≡ suc (held (rowBy r))
-  unfolding asks
-  asks-held r n h =
-      elim (decLt (numberOf r) 8) [
-        | yes l ↦ rw (ne-eqb (numberOf r) 9 (omega arith)) (omega (arith, held-set (rowBy r) l))
-        | no m ↦ rw (eq-eqb (numberOf r) 9 (omega arith)) (omega (arith, held-other (rowBy r) (omega arith)))
-      ]
-
-  asks-range : (r : List ℕ) → numberOf r ≤ 9 → (1 ≤ asks e t (numberOf r)) × (asks e t (numberOf r) ≤ 9)
-  asks-range r h =
-      elim (ℕ-discrete (numberOf r) 8) [
-        | yes p ↦ omega (arith, asks-many (numberOf r) p)
-        | no n ↦ omega (arith, asks-held r n h, held-low (rowBy r))
-      ]
-
   abbrev scope : Loop
   scope = scopeOf e t
 
@@ -47,7 +47,7 @@ module _ (e : Case) (t : Fact) where
 
   module _ (table : List ℕ) where
     abbrev asked : ℕ → ℕ
-    asked j = asks e t (numberOf (tableRow table j))
+    asked j = asks (numberOf (tableRow table j))
 
     abbrev Fetches : ℕ → Type 0
     Fetches j = e .block (scope .first + j) ≡ t .block
@@ -92,18 +92,18 @@ module _ (e : Case) (t : Fact) where
     low v i = s .searched .just v i .row .number
 
     -- what a node that fetches b asks for is no more than the most
-    node-each : (v : ℕ) → Fetching e t v → asks e t (numberOf (nodeRow e t table v)) ≤ most
+    node-each : (v : ℕ) → Fetching e t v → asks (numberOf (nodeRow e t table v)) ≤ most
     node-each v f =
         let b = says-true (inside-says scope v) (f .0) in
         let z : scope .first + (v - scope .first) ≡ v = omega arith in
         most-each table (size scope) (rowIndex e t v) (omega arith) (ap (e .block) z ∙ f .1)
 
     -- and one asks for it
-    node-met : (v : ℕ) × Fetching e t v × (most ≡ asks e t (numberOf (nodeRow e t table v)))
+    node-met : (v : ℕ) × Fetching e t v × (most ≡ asks (numberOf (nodeRow e t table v)))
     node-met =
         ⊎-elim
         (λ p. absurd (let h = node-each (some .0) (some .1) in omega (arith, asks-range (nodeRow e t table (some .0)) (low (some .0) (some .1 .0)))))
-        (λ p. (scope .first + p .0, (node (p .0) (p .1), p .2 .0), p .2 .1 ∙ ap (λ (r : List ℕ). asks e t (numberOf r)) (sym (row-at (p .0)))))
+        (λ p. (scope .first + p .0, (node (p .0) (p .1), p .2 .0), p .2 .1 ∙ ap (λ (r : List ℕ). asks (numberOf r)) (sym (row-at (p .0)))))
         (most-met table (size scope))
 
     pub most-many : most ≡ 9 → (v : ℕ) × Fetching e t v × (numberOf (nodeRow e t table v) ≡ 8)

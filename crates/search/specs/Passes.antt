@@ -19,6 +19,10 @@ tableRow table j = eight (λ i. getD table (perRow * j + i) 0)
 unfoldable pub withRow : List ℕ → ℕ → List ℕ → List ℕ
 withRow table j r = sets table (perRow * j) (eight (λ i. getD r i 0))
 
+-- The limit that a row with this number asks for where b is fetched: one more than it holds; where it is "many", 9, more than any.
+unfoldable pub asks : ℕ → ℕ
+asks n = cond (eqb n 9) 1 (suc n)
+
 module _ (e : Case) (t : Fact) where
   -- where node v's row stands, and the row
   abbrev pub rowIndex : ℕ → ℕ
@@ -50,10 +54,6 @@ module _ (e : Case) (t : Fact) where
   unfoldable pub changedTo : List ℕ → ℕ → Bool
   changedTo table zero = false
   changedTo table (suc i) = changedTo table i || changes (passTo table i) i
-
-  -- The limit that a row asks for where b is fetched: one more than it holds; 9, more than any, where it is "many".
-  unfoldable pub asks : ℕ → ℕ
-  asks n = cond (eqb n 9) 1 (suc n)
 
   -- the most that is asked for at the first j nodes of the scope
   unfoldable pub mostTo : List ℕ → ℕ → ℕ

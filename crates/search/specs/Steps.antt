@@ -50,7 +50,7 @@ grown r c = eight (grownAt r c)
 unfoldable pub opened : List ℕ → List ℕ
 opened s = cond (eqb (numberOf s) 9) (plain 0) s
 
--- "a set that reaches k blocks becomes 'many' for good": a row for the limit l
+-- a row for the limit l: "'many' where they hold as many blocks as the limit found or more"
 unfoldable pub lowered : ℕ → List ℕ → List ℕ
 lowered l r = cond (ltb (numberOf r) 8 && leb l (numberOf r)) (plain 8) r
 
