@@ -89,12 +89,13 @@ pub record Finds (f : List ℕ) (t : Fact) (l : ℕ) (rows : List ℕ) : Type 0 
 
 -- What `find` tells and leaves in the lent rows.
 module _ (f : List ℕ) (scope block : ℕ) (lent : List ℕ) where
-  abbrev pub FindVerdict : Verdict → Type 0
-  FindVerdict v = findVerdict f scope block (length lent) ≡ v
+  -- the rules come to this verdict
+  abbrev pub Judged : Verdict → Type 0
+  Judged v = findVerdict f scope block (length lent) ≡ v
 
   -- "With 'none', as with a refusal, the lent rows stay as they were; room past the rows always does."
   pub data FindOutcome : Told → List ℕ → Type 0 where
-    refused : (r : Refusal) → FindVerdict (Refused r) → FindOutcome (tellsWhy r) lent
+    refused : (r : Refusal) → Judged (Refused r) → FindOutcome (tellsWhy r) lent
     -- "It answers 'none' exactly when no limit up to k has acceptable evidence."
-    nothing : FindVerdict Accepted → NoneBelow f (sought (readCase f) scope block) (suc (readCase f .ways)) → FindOutcome (tells []) lent
-    found : FindVerdict Accepted → (l : ℕ) (rows : List ℕ) → Finds f (sought (readCase f) scope block) l rows → FindOutcome (tells (l ∷ [])) (rows ++ drop (length rows) lent)
+    nothing : Judged Accepted → NoneBelow f (sought (readCase f) scope block) (suc (readCase f .ways)) → FindOutcome (tells []) lent
+    found : Judged Accepted → (l : ℕ) (rows : List ℕ) → Finds f (sought (readCase f) scope block) l rows → FindOutcome (tells (l ∷ [])) (rows ++ drop (length rows) lent)

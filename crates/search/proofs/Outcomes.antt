@@ -17,7 +17,7 @@ use Rattle.paper.specs.Rules.{Passes}
 use Rattle.paper.specs.Verdicts.{graphRules, headRule, fetchRule, layoutRules, wholeFileRules, verdict}
 use Rattle.paper.specs.OneFact.{words}
 use Rattle.paper.specs.Writing.{rowFrom}
-use Rattle.paper.specs.Finding.{sought, withLimit, rowsLength, soughtRules, findVerdict, Takes, NoneBelow, Finds, FindVerdict, FindOutcome, nothing, found}
+use Rattle.paper.specs.Finding.{sought, withLimit, rowsLength, soughtRules, findVerdict, Takes, NoneBelow, Finds, Judged, FindOutcome, nothing, found}
 use Rattle.paper.proofs.Says.{says-true, says-is}
 use Rattle.paper.proofs.GraphLaws.{inside-says}
 use Rattle.paper.proofs.RuleLaws.{past, hands-then, passes-chain}
@@ -151,7 +151,7 @@ module _ (f : List ℕ) (scope block : ℕ) where
                   (long, limit-passes e t (rowsOf e t table) (s .closed) (s .searched .just) most limit (λ j. rowAt (words rows) (16 * j)) written);
             }
 
-  module _ (lent : List ℕ) (a : FindVerdict f scope block lent Accepted) (table : List ℕ) (s : Settled e t table) where
+  module _ (lent : List ℕ) (a : Judged f scope block lent Accepted) (table : List ℕ) (s : Settled e t table) where
     pub finds-none : mostTo e t table (size (scopeOf e t)) ≡ 9 → FindOutcome f scope block lent (tells []) lent
     finds-none q = nothing a (none-below (length lent) (kept (length lent) a) table s q)
 

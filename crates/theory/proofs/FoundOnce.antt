@@ -3,23 +3,22 @@ use Prim.Native.Nat.{ℕ, suc, _+_, _-_, _*_, _/_, _%_, _≤_, _<_}
 use native.Mathlib.Omega.{arith}
 use native.Mathlib.Decide.{ℕ-discrete, decLt}
 use mathlib.Core.Path.{_≡_, refl, sym, _∙_, ap, subst}
-use mathlib.Core.Logic.{_≢_, _⊎_, inl, inr, ⊎-elim}
+use mathlib.Core.Logic.{_≢_, _↔_}
 use mathlib.Core.Bool.{true}
-use mathlib.Core.List.{List, [], _∷_, _++_, List·Memᴰ}
+use mathlib.Core.List.{List, [], _∷_, _++_}
 use lib.ListN.{length, getD, drop}
 use lib.Seq.{ext-getD}
 use Rattle.paper.specs.declared.Refusal.{Refusal}
 use Rattle.paper.specs.declared.Loop.{Loop}
 use Rattle.paper.specs.declared.Verdict.{Verdict}
 use Rattle.paper.specs.declared.Verdict.the-variants.{Accepted, Refused}
-use Rattle.paper.specs.Answers.{refuse, Told, tellsWhy, tells}
+use Rattle.paper.specs.Answers.{refuse, Told, tellsWhy, tells, valueOr}
 use Rattle.paper.specs.Cases.{Row, Fact, Case, inside, size, scopeOf}
 use Rattle.paper.specs.Facts.{held}
 use Rattle.paper.specs.Files.{readCase}
 use Rattle.paper.specs.OneFact.{words}
-use Rattle.paper.specs.Demands.{Gathered}
 use Rattle.paper.specs.Writing.{rowFrom}
-use Rattle.paper.specs.Finding.{sought, withLimit, RowSays, Finds, FindOutcome, refused, nothing, found}
+use Rattle.paper.specs.Finding.{sought, withLimit, RowSays, NoneBelow, Finds, Judged, FindOutcome, refused, nothing, found}
 use Rattle.paper.proofs.Says.{says-true, says-is}
 use Rattle.paper.proofs.GraphLaws.{inside-says}
 use Rattle.paper.proofs.TableLaws.{length-table, getD-table}
@@ -145,3 +144,13 @@ module _ (f : List ℕ) (scope block : ℕ) (lent : List ℕ) where
       let t = sought (readCase f) scope block in
       let p = limit-once f t l l′ rows rows′ m m′ in
       same-found l l′ rows rows′ p (rows-once f t l rows rows′ m (subst (λ (x : ℕ). Finds f t x rows′) (sym p) m′))
+
+  -- "It answers 'none' exactly when no limit up to k has acceptable evidence."
+  pub none-exactly : (told : Told) (after : List ℕ) → FindOutcome f scope block lent told after → Judged f scope block lent Accepted →
+      (told ≡ tells []) ↔ NoneBelow f (sought (readCase f) scope block) (suc (readCase f .ways))
+  none-exactly told after (refused r a) b = never r (sym a ∙ b)
+  none-exactly told after (nothing a n) b = (λ p. n, λ m. refl)
+  none-exactly told after (found a l rows m) b = (λ p. absurd (some-value p), λ n. absurd (n l (m .low) (omega (arith, m .high)) (words rows) (m .takes)))
+    where
+      some-value : tells (l ∷ []) ≡ tells [] → ⊥
+      some-value p = omega (arith, ap (valueOr (suc l)) p)
