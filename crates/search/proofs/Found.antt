@@ -1,5 +1,5 @@
 -- The rows that are lent, as a list: their length, and each row in it.
-use Prim.Native.Nat.{ℕ, zero, suc, _+_, _*_, _≤_, _<_}
+use Prim.Native.Nat.{ℕ, zero, suc, _+_, _*_, _<_}
 use native.Mathlib.Omega.{arith}
 use native.Mathlib.Decide.{ℕ-discrete}
 use mathlib.Core.Path.{_≡_, refl, sym, _∙_, ap}
@@ -9,7 +9,7 @@ use lib.Dec.{ltb, leb}
 use lib.ListN.{length, getD, length-append, List·getD-append}
 use lib.Seq.{getD-append-add}
 use Rattle.paper.specs.Lists.{each}
-use Rattle.paper.specs.Cases.{Row, Fact, Case, size, scopeOf}
+use Rattle.paper.specs.Cases.{Fact, Case, size, scopeOf}
 use Rattle.paper.specs.Files.{u16At, rowAt}
 use Rattle.paper.specs.OneFact.{words}
 use Rattle.paper.specs.Writing.{rowFrom}

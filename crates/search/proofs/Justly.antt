@@ -5,13 +5,13 @@ use native.Mathlib.Decide.{decLt}
 use mathlib.Core.Path.{_≡_, refl, sym, _∙_, subst}
 use mathlib.Core.Logic.{_≢_, _⊎_, inl, inr, ⊎-elim}
 use mathlib.Core.Bool.{Bool, cond}
-use mathlib.Core.List.{List, List·Memᴰ}
+use mathlib.Core.List.{List}
 use lib.ListN.{length, getD, List·getD-eq-default}
 use Rattle.paper.specs.Machines.{none}
 use Rattle.paper.specs.Lists.{table}
-use Rattle.paper.specs.Cases.{Row, Fact, Case, sameSet}
+use Rattle.paper.specs.Cases.{Fact, Case}
 use Rattle.paper.specs.Facts.{held}
-use Rattle.paper.specs.Demands.{EdgeInside, Other, Gathered}
+use Rattle.paper.specs.Demands.{EdgeInside, Gathered}
 use Rattle.paper.specs.Finding.{AtLeast}
 use Rattle.paper.proofs.Says.{Says, holds, fails, says-eq, says-not, says-and}
 use Rattle.paper.proofs.TableLaws.{length-table}

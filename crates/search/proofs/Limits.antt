@@ -2,9 +2,9 @@
 use Prim.Native.Nat.{ℕ, zero, suc, _+_, _-_, _≤_, _<_, max}
 use native.Mathlib.Omega.{arith}
 use native.Mathlib.Decide.{ℕ-discrete, decLt}
-use mathlib.Core.Path.{_≡_, refl, sym, _∙_, ap, subst}
+use mathlib.Core.Path.{_≡_, refl, sym, _∙_, ap}
 use mathlib.Core.Logic.{_≢_, _⊎_, inl, inr, ⊎-elim}
-use mathlib.Core.Bool.{Bool, true, false, cond}
+use mathlib.Core.Bool.{Bool, true, cond}
 use mathlib.Core.List.{List}
 use borrow.Author.Tests.{eq-eqb, ne-eqb}
 use Rattle.paper.specs.declared.Loop.{Loop}
@@ -16,7 +16,7 @@ use Rattle.paper.proofs.RowLaws.{held-set, held-other, held-low}
 use Rattle.theory.proofs.LeastLimit.{Fetching, Limit}
 use Rattle.search.specs.Steps.{numberOf, rowBy}
 use Rattle.search.specs.Passes.{tableRow, rowIndex, nodeRow, asks, mostTo}
-use Rattle.search.proofs.Searching.{rowsOf, Searched, Settled}
+use Rattle.search.proofs.Searching.{rowsOf, Settled}
 
 asks-many : (n : ℕ) → n ≡ 8 → asks n ≡ 9
 unfolding asks

@@ -1,7 +1,7 @@
 -- A table that is settled gives the outcome: no limit where the most that is asked for is 9, else that limit and the rows for it.
 use Prim.Native.Nat.{ℕ, suc, _-_, _*_, _≤_, _<_}
 use native.Mathlib.Omega.{arith}
-use mathlib.Core.Path.{_≡_, refl, sym, _∙_, ap, subst}
+use mathlib.Core.Path.{_≡_, sym, _∙_, subst}
 use mathlib.Core.Logic.{_≢_, _↔_}
 use mathlib.Core.Bool.{true, false}
 use mathlib.Core.List.{List, [], _∷_, _++_}
@@ -10,9 +10,9 @@ use lib.Dec.{ltb}
 use lib.ListN.{length, getD, drop}
 use Rattle.paper.specs.declared.Verdict.the-variants.{Accepted}
 use Rattle.paper.specs.Answers.{tells}
-use Rattle.paper.specs.Cases.{Row, Fact, Case, inside, size, scopeOf, fetches}
+use Rattle.paper.specs.Cases.{Fact, Case, inside, size, scopeOf, fetches}
 use Rattle.paper.specs.Facts.{badHead, unfetched}
-use Rattle.paper.specs.Files.{trailerOf, rowAt, caseOf, readCase}
+use Rattle.paper.specs.Files.{rowAt, caseOf, readCase}
 use Rattle.paper.specs.Rules.{Passes}
 use Rattle.paper.specs.Verdicts.{graphRules, headRule, fetchRule, layoutRules, wholeFileRules, verdict}
 use Rattle.paper.specs.OneFact.{words}
@@ -29,12 +29,12 @@ use Rattle.theory.proofs.Exact.{block-small}
 use Rattle.theory.proofs.OneAccepted.{one-fact}
 use Rattle.theory.proofs.LeastLimit as Limits
 use Rattle.theory.proofs.LeastLimit.{Pass, Fetching, Limit, none-found, limit-low, limit-high, limit-least, limit-passes, lowered-says}
-use Rattle.search.specs.Steps.{rowBy, lowered}
-use Rattle.search.specs.Passes.{tableRow, rowIndex, nodeRow, mostTo, rowsFound}
+use Rattle.search.specs.Steps.{lowered}
+use Rattle.search.specs.Passes.{rowIndex, nodeRow, mostTo, rowsFound}
 use Rattle.search.proofs.Justly.{Asked}
 use Rattle.search.proofs.Searching.{rowsOf, Settled}
 use Rattle.search.proofs.Limits.{most-many, most-limit}
-use Rattle.search.proofs.Found.{each-length, row-lent, row-written, words-length, lowered-same, lowered-long, rows-length}
+use Rattle.search.proofs.Found.{row-lent, row-written, words-length, lowered-same, lowered-long, rows-length}
 
 module _ (f : List ℕ) (scope block : ℕ) where
   abbrev e : Case

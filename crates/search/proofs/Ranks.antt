@@ -4,14 +4,14 @@ use native.Mathlib.Omega.{arith}
 use native.Mathlib.Decide.{ℕ-discrete, decLt}
 use mathlib.Core.Path.{_≡_, refl, _∙_, ap, subst}
 use mathlib.Core.Logic.{_≢_, _⊎_, inl, inr, ⊎-elim}
-use mathlib.Core.Bool.{Bool, cond, _||_}
+use mathlib.Core.Bool.{Bool, cond}
 use mathlib.Core.List.{List}
 use borrow.Author.Tests.{lt-ltb, le-ltb, eq-eqb, ne-eqb}
 use lib.Dec.{eqb, ltb}
 use Rattle.paper.specs.Lists.{sumTo}
 use Rattle.paper.proofs.Says.{Says, holds, fails, says-lt, says-eq, says-or}
 use Rattle.theory.proofs.SumLaws.{sum-le}
-use Rattle.search.specs.Steps.{numberOf, slotOf, plain, among, grown, put, putSlots}
+use Rattle.search.specs.Steps.{numberOf, slotOf, plain, grown, put, putSlots}
 use Rattle.search.proofs.Placing.{plain-number, Among, among-says, grown-is}
 
 unfoldable pub rank : ℕ → ℕ

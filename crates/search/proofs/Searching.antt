@@ -4,19 +4,17 @@ use native.Mathlib.Omega.{arith}
 use native.Mathlib.Decide.{ℕ-discrete}
 use mathlib.Core.Path.{_≡_, refl, sym, _∙_, ap, subst}
 use mathlib.Core.Logic.{_≢_, _⊎_, inl, inr, ⊎-elim}
-use mathlib.Core.Bool.{Bool, true, false, cond, not, _&&_, _||_, true≢false}
+use mathlib.Core.Bool.{Bool, true, false, cond, _||_, true≢false}
 use mathlib.Core.List.{List}
-use lib.Dec.{eqb}
 use lib.ListN.{length}
 use Rattle.paper.specs.declared.Loop.{Loop}
 use Rattle.paper.specs.Lists.{sumTo}
 use Rattle.paper.specs.Cases.{Row, Fact, Case, inside, size, scopeOf}
-use Rattle.paper.specs.Demands.{EdgeInside}
+use Rattle.paper.specs.Writing.{perRow}
 use Rattle.paper.proofs.Says.{Says, holds, fails, says-bool, says-eq, says-not, says-and, says-false, says-true, says-is, neither}
 use Rattle.paper.proofs.GraphLaws.{inside-says}
 use Rattle.paper.proofs.Meaning.{In, EdgeRule}
 use Rattle.theory.proofs.Needed.{Closed}
-use Rattle.theory.proofs.SameRow.{Same}
 use Rattle.theory.proofs.Justified.{Justified, same-justified}
 use Rattle.search.specs.Steps.{numberOf, rowBy, plain}
 use Rattle.search.specs.Passes.{tableRow, withRow, rowIndex, nodeRow, within, steppedAt, changes, afterEdge, passTo, changedTo}
@@ -37,7 +35,7 @@ module _ (e : Case) (t : Fact) where
 
   -- The table is long enough, and all that it says has its walk.
   pub record Searched (table : List ℕ) : Type 0 where
-    pub long : 8 * size scope ≤ length table
+    pub long : perRow * size scope ≤ length table
     pub just : (v : ℕ) → Inside v → Justified e t v (rowsOf table v)
 
   -- And every edge keeps its rule.
@@ -53,7 +51,7 @@ module _ (e : Case) (t : Fact) where
   in-scope v h = says-true (inside-says scope v) h
 
   -- before the first pass nothing is said
-  pub searched-start : (table : List ℕ) → 8 * size scope ≤ length table → ((j : ℕ) → j < size scope → tableRow table j ≡ plain 9) → Searched table
+  pub searched-start : (table : List ℕ) → perRow * size scope ≤ length table → ((j : ℕ) → j < size scope → tableRow table j ≡ plain 9) → Searched table
   searched-start table h nine =
       record {
         long = h;

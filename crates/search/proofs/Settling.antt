@@ -7,11 +7,10 @@ use mathlib.Core.Bool.{Bool, cond}
 use mathlib.Core.List.{List}
 use Rattle.paper.specs.Machines.{none}
 use Rattle.paper.specs.Cases.{Fact, Case}
-use Rattle.paper.specs.Demands.{Other}
 use Rattle.paper.proofs.Says.{Says, holds, fails, says-eq}
 use Rattle.paper.proofs.RowLaws.{held-set}
 use Rattle.paper.proofs.Meaning.{SoundRow, EdgeRule}
-use Rattle.search.specs.Steps.{numberOf, slotOf, rowBy, plain, opened, put, putSlots, counts, handed, stepped}
+use Rattle.search.specs.Steps.{numberOf, slotOf, rowBy, plain, opened, put, putSlots, handed, stepped}
 use Rattle.search.proofs.Placing.{plain-number, Among}
 use Rattle.search.proofs.Ranks.{rank, rank-set, rank-many, rank-nine, rank-below, put-is, put-grows, All, puts-low, puts-grow}
 use Rattle.search.proofs.Justly.{Asked, among-holds, counts-says}

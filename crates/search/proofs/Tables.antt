@@ -2,7 +2,7 @@
 use Prim.Native.Nat.{ℕ, zero, suc, _+_, _*_, _≤_, _<_}
 use native.Mathlib.Omega.{arith}
 use native.Mathlib.Decide.{decLt}
-use mathlib.Core.Path.{_≡_, refl, sym, _∙_, ap}
+use mathlib.Core.Path.{_≡_, refl, _∙_, ap}
 use mathlib.Core.Logic.{_≢_, _⊎_, inl, inr, ⊎-elim}
 use mathlib.Core.List.{List, [], _∷_}
 use lib.ListN.{length, getD, set, length-set}
@@ -11,7 +11,7 @@ use Rattle.paper.specs.Lists.{table}
 use Rattle.paper.proofs.TableLaws.{same-table}
 use Rattle.lines.specs.Lines.{eight}
 use Rattle.theory.proofs.SameRow.{Same}
-use Rattle.search.specs.Steps.{numberOf, rowBy}
+use Rattle.search.specs.Steps.{rowBy}
 use Rattle.search.specs.Passes.{tableRow, withRow}
 use Rattle.search.proofs.Placing.{entry}
 
