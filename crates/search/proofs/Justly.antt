@@ -22,7 +22,7 @@ use Rattle.theory.proofs.Decided.{Reached, reached-first, reached-on, gathered-
 use Rattle.theory.proofs.Enough.{plainRow, plain-sound}
 use Rattle.theory.proofs.SameRow.{same-sound}
 use Rattle.theory.proofs.Justified.{Justified}
-use Rattle.search.specs.Steps.{numberOf, slotOf, rowBy, plain, placed, grown, opened, put, putSlots, counts, handed, stepped}
+use Rattle.search.specs.Steps.{numberOf, slotOf, rowBy, plain, placed, grown, opened, put, putSlots, isB, counts, handed, stepped}
 use Rattle.search.proofs.Placing.{plain-number, plain-same, Among, grown-is, grown-slot, Placeable, placed-only, placed-rising, placed-free}
 use Rattle.search.proofs.Ranks.{Put, same, more, full, put-is}
 
@@ -202,6 +202,10 @@ module _ (e : Case) (t : Fact) where
         go (holds p) = (empty-justified, λ q. omega (arith, plain-number 0))
         go (fails n) = (j, n)
 
+  -- "u fetches b"
+  pub b-says : (x : ℕ) → Says (x ≡ t .block) (isB e t x)
+  b-says x = says-eq _ _
+
   -- "u's block where u fetches one of b's set"
   pub counts-says : (x : ℕ) → Says ((x ≢ none) × (x % e .sets ≡ t .block % e .sets)) (counts e t x)
   unfolding counts
@@ -234,7 +238,7 @@ module _ (e : Case) (t : Fact) where
 
     pub step-justified : Justified e t v (rowBy (stepped e t x r s))
     unfolding stepped
-    step-justified = go (says-eq (numberOf s) 8) (says-eq x (t .block)) (says-eq (numberOf r) 9) (says-eq (numberOf r) 8)
+    step-justified = go (says-eq (numberOf s) 8) (b-says x) (says-eq (numberOf r) 9) (says-eq (numberOf r) 8)
       where
         go : {a b c f : Bool} → Says (numberOf s ≡ 8) a → Says (x ≡ t .block) b → Says (numberOf r ≡ 9) c → Says (numberOf r ≡ 8) f →
             Justified e t v (rowBy (cond a s (cond b (opened s) (cond c s (cond f (plain 8) (handed e t x r (opened s)))))))

@@ -11,7 +11,7 @@ use lib.Dec.{eqb, ltb}
 use Rattle.paper.specs.Lists.{sumTo}
 use Rattle.paper.proofs.Says.{Says, holds, fails, says-lt, says-eq, says-or}
 use Rattle.theory.proofs.SumLaws.{sum-le}
-use Rattle.search.specs.Steps.{numberOf, slotOf, plain, grown, put, putSlots}
+use Rattle.search.specs.Steps.{numberOf, slotOf, plain, grown, fits, put, putSlots}
 use Rattle.search.proofs.Placing.{plain-number, Among, among-says, grown-is}
 
 unfoldable pub rank : ℕ → ℕ
@@ -45,9 +45,12 @@ module _ (k : ℕ) where
     more : numberOf r ≢ 8 → ¬ Among r c → suc (numberOf r) < k → Put r c (grown r c)
     full : numberOf r ≢ 8 → ¬ Among r c → k ≤ suc (numberOf r) → Put r c (plain 8)
 
+  fits-says : (n : ℕ) → Says (suc n < k) (fits k n)
+  fits-says n = says-lt _ _
+
   pub put-is : (r : List ℕ) (c : ℕ) → Put r c (put k r c)
   unfolding put
-  put-is r c = go (says-or (says-eq (numberOf r) 8) (among-says r c)) (says-lt (suc (numberOf r)) k)
+  put-is r c = go (says-or (says-eq (numberOf r) 8) (among-says r c)) (fits-says (numberOf r))
     where
       go : {a b : Bool} → Says ((numberOf r ≡ 8) ⊎ Among r c) a → Says (suc (numberOf r) < k) b → Put r c (cond a r (cond b (grown r c) (plain 8)))
       go (holds h) s = same h

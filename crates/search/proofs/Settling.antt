@@ -13,7 +13,7 @@ use Rattle.paper.proofs.Meaning.{SoundRow, EdgeRule}
 use Rattle.search.specs.Steps.{numberOf, slotOf, rowBy, plain, opened, put, putSlots, handed, stepped}
 use Rattle.search.proofs.Placing.{plain-number, Among}
 use Rattle.search.proofs.Ranks.{rank, rank-set, rank-many, rank-nine, rank-below, put-is, put-grows, All, puts-low, puts-grow}
-use Rattle.search.proofs.Justly.{Asked, among-holds, counts-says}
+use Rattle.search.proofs.Justly.{Asked, among-holds, b-says, counts-says}
 
 module _ (e : Case) (t : Fact) (ask : Asked e t) (x : ℕ) (r s : List ℕ) (a : SoundRow e t (rowBy r)) (b : SoundRow e t (rowBy s)) where
   abbrev k : ℕ
@@ -104,7 +104,7 @@ module _ (e : Case) (t : Fact) (ask : Asked e t) (x : ℕ) (r s : List ℕ) (a :
 
   pub step-settles : Settles (stepped e t x r s)
   unfolding stepped
-  step-settles = go (says-eq (numberOf s) 8) (says-eq x (t .block)) (says-eq (numberOf r) 9) (says-eq (numberOf r) 8)
+  step-settles = go (says-eq (numberOf s) 8) (b-says e t x) (says-eq (numberOf r) 9) (says-eq (numberOf r) 8)
     where
       go : {c d f g : Bool} → Says (numberOf s ≡ 8) c → Says (x ≡ t .block) d → Says (numberOf r ≡ 9) f → Says (numberOf r ≡ 8) g →
           Settles (cond c s (cond d (opened s) (cond f s (cond g (plain 8) (handed e t x r (opened s))))))

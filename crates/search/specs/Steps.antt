@@ -55,9 +55,13 @@ unfoldable pub lowered : ℕ → List ℕ → List ℕ
 lowered l r = cond (ltb (numberOf r) 8 && leb l (numberOf r)) (plain 8) r
 
 module _ (k : ℕ) where
+  -- a set of n blocks and one more is still fewer than k
+  abbrev pub fits : ℕ → Bool
+  fits n = ltb (suc n) k
+
   -- one block more, where k blocks are "many"
   unfoldable pub put : List ℕ → ℕ → List ℕ
-  put r c = cond (eqb (numberOf r) 8 || among r c) r (cond (ltb (suc (numberOf r)) k) (grown r c) (plain 8))
+  put r c = cond (eqb (numberOf r) 8 || among r c) r (cond (fits (numberOf r)) (grown r c) (plain 8))
 
   -- the blocks in the first n slots of r put into s
   unfoldable pub putSlots : List ℕ → List ℕ → ℕ → List ℕ
@@ -65,6 +69,10 @@ module _ (k : ℕ) where
   putSlots r s (suc n) = put (putSlots r s n) (slotOf r n)
 
 module _ (e : Case) (t : Fact) where
+  -- "u fetches b"
+  abbrev pub isB : ℕ → Bool
+  isB x = eqb x (t .block)
+
   -- "u's block where u fetches one of b's set"
   unfoldable pub counts : ℕ → Bool
   counts x = not (eqb x none) && sameSet e x (t .block)
@@ -79,4 +87,4 @@ module _ (e : Case) (t : Fact) where
   unfoldable pub stepped : ℕ → List ℕ → List ℕ → List ℕ
   stepped x r s =
       cond (eqb (numberOf s) 8) s
-      (cond (eqb x (t .block)) (opened s) (cond (eqb (numberOf r) 9) s (cond (eqb (numberOf r) 8) (plain 8) (handed x r (opened s)))))
+      (cond (isB x) (opened s) (cond (eqb (numberOf r) 9) s (cond (eqb (numberOf r) 8) (plain 8) (handed x r (opened s)))))
