@@ -1,19 +1,20 @@
 -- The rows that are lent, as a list: their length, and each row in it.
-use Prim.Native.Nat.{ℕ, zero, suc, _+_, _*_, _<_}
+use Prim.Native.Nat.{ℕ, zero, suc, _+_, _*_, _≤_, _<_}
 use native.Mathlib.Omega.{arith}
 use native.Mathlib.Decide.{ℕ-discrete}
-use mathlib.Core.Path.{_≡_, refl, sym, _∙_, ap}
+use mathlib.Core.Path.{_≡_, refl, sym, _∙_, ap, ap₂}
 use mathlib.Core.Bool.{Bool, true, false, cond, _&&_}
 use mathlib.Core.List.{List, _++_}
 use lib.Dec.{ltb, leb}
-use lib.ListN.{length, getD, length-append, List·getD-append}
-use lib.Seq.{getD-append-add}
-use Rattle.paper.specs.Lists.{each}
+use lib.ListN.{length, getD, drop, length-append, length-drop, List·getD-append}
+use lib.Seq.{sets, sets-eq, take-at, drop-append-add, drop-drop, getD-append-add}
+use Rattle.paper.specs.Lists.{table, each}
 use Rattle.paper.specs.Cases.{Fact, Case, size, scopeOf}
 use Rattle.paper.specs.Files.{u16At, rowAt}
 use Rattle.paper.specs.OneFact.{words}
 use Rattle.paper.specs.Writing.{rowFrom}
 use Rattle.paper.specs.Finding.{rowsLength}
+use Rattle.paper.proofs.TableLaws.{table-is}
 use Rattle.paper.proofs.Parts.{stands-self}
 use Rattle.paper.proofs.Sections.{length-words, word-is}
 use Rattle.lines.specs.Lines.{eight}
@@ -21,8 +22,12 @@ use Rattle.theory.proofs.Enough.{plainRow}
 use Rattle.theory.proofs.SameRow.{Same}
 use Rattle.theory.proofs.LeastLimit as Limits
 use Rattle.search.specs.Steps.{numberOf, rowBy, plain, lowered}
-use Rattle.search.specs.Passes.{tableRow, rowsFound}
+use Rattle.search.specs.Passes.{tableRow, withRow, rowsFound}
 use Rattle.search.proofs.Placing.{plain-same}
+
+eight-is : (r : List ℕ) → length r ≡ 8 → eight (λ i. getD r i 0) ≡ r
+unfolding eight table
+eight-is r e = table-is (λ i. getD r i 0) 8 r e (λ i h. refl)
 
 -- lists of eight, one after another
 module _ (g : ℕ → List ℕ) (long : (j : ℕ) → length (g j) ≡ 8) where
@@ -41,6 +46,24 @@ module _ (g : ℕ → List ℕ) (long : (j : ℕ) → length (g j) ≡ 8) where
             (ap (λ (q : ℕ). getD (each g n ++ g n) (q + i) 0) (sym (each-length n)) ∙ getD-append-add (each g n) (g n) i 0)
         | no m ↦ List·getD-append (each g n) (g n) 0 (8 * j + i) (omega (arith, each-length n)) ∙ each-at n j i (omega arith) l
       ]
+
+  -- row j put after those before it, where the rest of the list is as it was
+  pub rows-more : (lent : List ℕ) (j : ℕ) → 8 * j + 8 ≤ length lent → withRow (each g j ++ drop (8 * j) lent) j (g j) ≡ each g (suc j) ++ drop (8 * suc j) lent
+  unfolding withRow each
+  rows-more lent j h =
+      let all = each g j ++ drop (8 * j) lent in
+      let front = each-length j in
+      let row : eight (λ i. getD (g j) i 0) ≡ g j = eight-is (g j) (long j) in
+      let room : 8 * j + length (g j) ≤ length all = omega (arith, long j, length-append (each g j) (drop (8 * j) lent), length-drop (8 * j) lent) in
+      ap (sets all (8 * j)) row
+      ∙ sets-eq (g j) all (8 * j) room
+      ∙ ap₂ (λ (a b : List ℕ). a ++ g j ++ b) (take-at (each g j) (drop (8 * j) lent) (8 * j) front) rest
+    where
+      rest : drop (8 * j + length (g j)) (each g j ++ drop (8 * j) lent) ≡ drop (8 * suc j) lent
+      rest =
+          let p : 8 * j + length (g j) ≡ length (each g j) + 8 = omega (arith, each-length j, long j) in
+          let q : 8 * j + 8 ≡ 8 * suc j = omega arith in
+          ap (λ (k : ℕ). drop k (each g j ++ drop (8 * j) lent)) p ∙ drop-append-add (each g j) (drop (8 * j) lent) 8 ∙ drop-drop 8 (8 * j) lent ∙ ap (λ (k : ℕ). drop k lent) q
 
   -- row j of them, as it is lent and as bytes
   module _ (n j : ℕ) (h : j < n) where

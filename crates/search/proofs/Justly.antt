@@ -176,10 +176,10 @@ module _ (e : Case) (t : Fact) where
           })
 
     -- a row to which b has come, and what is put into it
-    abbrev Row-of : List ℕ → Type 0
-    Row-of r = Justified e t v (rowBy r) × (numberOf r ≢ 9)
+    abbrev Open : List ℕ → Type 0
+    Open r = Justified e t v (rowBy r) × (numberOf r ≢ 9)
 
-    put-justified : (c : ℕ) → Gathered e t v c → (r s : List ℕ) → Row-of r → Put (t .limit) r c s → Row-of s
+    put-justified : (c : ℕ) → Gathered e t v c → (r s : List ℕ) → Open r → Put (t .limit) r c s → Open s
     put-justified c g r s j (same h) = j
     put-justified c g r s j (more n m h) =
         let set : numberOf r < 8 = omega (arith, j .0 .row .number, j .1) in
@@ -188,17 +188,17 @@ module _ (e : Case) (t : Fact) where
         let set : numberOf r < 8 = omega (arith, j .0 .row .number, j .1) in
         (full-justified c g r set (j .0) m h, λ p. omega (arith, plain-number 8))
 
-    pub puts-justified : (r s : List ℕ) (n : ℕ) → ((i : ℕ) → i < n → Gathered e t v (slotOf r i)) → Row-of s → Row-of (putSlots (t .limit) r s n)
+    pub puts-justified : (r s : List ℕ) (n : ℕ) → ((i : ℕ) → i < n → Gathered e t v (slotOf r i)) → Open s → Open (putSlots (t .limit) r s n)
     unfolding putSlots
     puts-justified r s zero g j = j
     puts-justified r s (suc n) g j =
         put-justified (slotOf r n) (g n (omega arith)) _ _ (puts-justified r s n (λ i h. g i (omega arith)) j) (put-is (t .limit) (putSlots (t .limit) r s n) (slotOf r n))
 
-    opened-row : (s : List ℕ) → Justified e t v (rowBy s) → Row-of (opened s)
+    opened-row : (s : List ℕ) → Justified e t v (rowBy s) → Open (opened s)
     unfolding opened
     opened-row s j = go (says-eq (numberOf s) 9)
       where
-        go : {b : Bool} → Says (numberOf s ≡ 9) b → Row-of (cond b (plain 0) s)
+        go : {b : Bool} → Says (numberOf s ≡ 9) b → Open (cond b (plain 0) s)
         go (holds p) = (empty-justified, λ q. omega (arith, plain-number 0))
         go (fails n) = (j, n)
 
@@ -226,7 +226,7 @@ module _ (e : Case) (t : Fact) where
         set : numberOf r < 8
         set = omega (arith, j .row .number)
 
-        all : Row-of ask v reached (putSlots (t .limit) r (opened s) (numberOf r))
+        all : Open ask v reached (putSlots (t .limit) r (opened s) (numberOf r))
         all =
             puts-justified ask v reached r (opened s) (numberOf r)
             (λ k l. gathered-on e t d p _ (j .only _ (k, omega (arith, held-set (rowBy r) set), refl))) (opened-row ask v reached s i)

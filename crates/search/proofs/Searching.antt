@@ -153,7 +153,7 @@ module _ (e : Case) (t : Fact) where
     edge-same i table c = rw c refl
 
     module _ (table : List ℕ) (s : Searched table) where
-      searched-to : (i : ℕ) → i ≤ e .edges → Searched (passTo e t table i)
+      pub searched-to : (i : ℕ) → i ≤ e .edges → Searched (passTo e t table i)
       unfolding passTo
       searched-to zero h = s
       searched-to (suc i) h = edge-searched i h (passTo e t table i) (searched-to i (omega arith))

@@ -2,13 +2,13 @@
 use Prim.Native.Nat.{ℕ, zero, suc, _+_, _*_, _≤_, _<_}
 use native.Mathlib.Omega.{arith}
 use native.Mathlib.Decide.{decLt}
-use mathlib.Core.Path.{_≡_, refl, _∙_, ap}
+use mathlib.Core.Path.{_≡_, refl, sym, _∙_, ap}
 use mathlib.Core.Logic.{_≢_, _⊎_, inl, inr, ⊎-elim}
 use mathlib.Core.List.{List, [], _∷_}
 use lib.ListN.{length, getD, set, length-set}
 use lib.Seq.{sets, length-sets, getD-set-same, getD-set-other}
 use Rattle.paper.specs.Lists.{table}
-use Rattle.paper.proofs.TableLaws.{same-table}
+use Rattle.paper.proofs.TableLaws.{same-table, table-is}
 use Rattle.lines.specs.Lines.{eight}
 use Rattle.theory.proofs.SameRow.{Same}
 use Rattle.search.specs.Steps.{rowBy}
@@ -57,6 +57,11 @@ module _ (l : List ℕ) (j : ℕ) (r : List ℕ) where
 
   pub with-row : 8 * j + 8 ≤ length l → Same (rowBy r) (rowBy (tableRow (withRow l j r) j))
   with-row h = record { number = with-entry h 0 (omega arith); slot = λ k m. with-entry h (suc k) (omega arith) }
+
+  -- a row of eight numbers is read back as it was
+  pub with-is : 8 * j + 8 ≤ length l → length r ≡ 8 → tableRow (withRow l j r) j ≡ r
+  unfolding tableRow eight table
+  with-is h e = table-is (λ i. getD (withRow l j r) (8 * j + i) 0) 8 r e (λ i m. sym (row-entry (withRow l j r) j i m) ∙ with-entry h i m)
 
   pub with-others : (i : ℕ) → i ≢ j → tableRow (withRow l j r) i ≡ tableRow l i
   unfolding withRow
