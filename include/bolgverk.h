@@ -112,15 +112,15 @@ uint8_t bolgverk_set_of(uint16_t block, uint8_t sets, uint8_t *set);
  *    9  a backward edge does not lead to the header of a loop around its source                              edge           0
  *   10  a node's count is above 4,294,967,295                                                                node           0
  *   11  fewer than 6 bytes are left for a fact                                                               fact           0
- *   12  a fact's loop number, block or age limit out of range                                                fact           0
+ *   12  a fact's loop number, block or age limit out of range                                                fact, find: 0  0
  *   13  a fact's block is below the previous fact's, or equal and its scope starts at or before the previous scope's last node fact           0
- *   14  no node of a fact's scope fetches its block                                                          fact           0
+ *   14  no node of a fact's scope fetches its block                                                          fact, find: 0  0
  *   15  a fact's rows are cut short, or the writer is handed more or fewer than its scope has nodes          fact           0
  *   16  a row is not sound                                                                                   fact           node
  *   17  a set is followed by row 9, or by a set that lacks a block                                           fact           edge
  *   18  a node that fetches the fact's block has row 8 ("many")                                              fact           node
  *   19  bytes are left between the last fact and the trailer                                                 0              0
- *   20  the lent list is too short: 321 numbers, one byte an access, or the file's bytes                     0              0
+ *   20  the lent list is too short: 321 numbers, one byte an access, the file's bytes, or the rows found     0              0
  *   21  block 65,535 is accessed, or an address's block is above 65,534                                      access, else 0 0
  *   22  the set's state is not legal                                                                         0              0
  *   23  the line size is none of 8, 16, 32, 64, 128                                                          0              0
