@@ -1,8 +1,8 @@
 -- Rows of eight numbers: one without blocks, whether a block stands among the slots, and a block put in its place.
-use Prim.Native.Nat.{ℕ, zero, suc, _+_, _<_}
+use Prim.Native.Nat.{ℕ, zero, suc, _<_}
 use native.Mathlib.Omega.{arith}
 use native.Mathlib.Decide.{ℕ-discrete, decLt}
-use mathlib.Core.Path.{_≡_, refl, ap}
+use mathlib.Core.Path.{_≡_, ap}
 use mathlib.Core.Logic.{_≢_, _⊎_, inl, inr, ⊎-elim}
 use mathlib.Core.List.{List}
 use lib.ListN.{getD}
@@ -86,33 +86,6 @@ module _ (old : ℕ → ℕ) (n c : ℕ) (p : Placeable old n c) where
         | yes l ↦ inr (suc k, elim (ℕ-discrete (suc k) n) [ yes q ↦ absurd (omega (arith, p .free, p .small, ap old q)) | no q ↦ omega arith ], omega arith)
         | no m ↦ elim (decLt (old k) c) [ yes l ↦ inl (omega arith) | no m′ ↦ inr (k, omega arith, omega arith) ]
       ]
-
-  -- an old block has a slot: its own where it is below c, else the next
-  own : (k : ℕ) → k < n → old k < c → slot k ≡ old k
-  unfolding placed
-  own zero h l = omega arith
-  own (suc k) h l = omega (arith, p .rising k h)
-
-  pub placed-keeps : (k : ℕ) → k < n → (j : ℕ) × (j < suc n) × (slot j ≡ old k)
-  unfolding placed
-  placed-keeps k h = elim (decLt (old k) c) [ yes l ↦ (k, omega arith, own k h l) | no m ↦ (suc k, omega arith, omega (arith, p .new k h)) ]
-
-  -- c has the first slot whose old number is above it
-  at : (m : ℕ) → ((k : ℕ) → suc k ≡ m → old k < c) → c < old m → slot m ≡ c
-  unfolding placed
-  at zero b l = omega arith
-  at (suc m) b l = omega (arith, b m refl)
-
-  adds-from : (d m : ℕ) → n ≡ m + d → ((k : ℕ) → suc k ≡ m → old k < c) → (j : ℕ) × (j < suc n) × (slot j ≡ c)
-  adds-from zero m s b = let q : m ≡ n = omega arith in (m, omega arith, at m b (omega (arith, p .free, p .small, ap old q)))
-  adds-from (suc d) m s b =
-      elim (decLt (old m) c) [
-        | yes l ↦ adds-from d (suc m) (omega arith) (λ k q. let z : k ≡ m = omega arith in rw z l)
-        | no q ↦ (m, omega arith, at m b (omega (arith, p .new m (omega arith))))
-      ]
-
-  pub placed-adds : (j : ℕ) × (j < suc n) × (slot j ≡ c)
-  placed-adds = adds-from n 0 (omega arith) (λ k s. absurd (omega arith))
 
   pub placed-rising : (k : ℕ) → suc k < suc n → slot k < slot (suc k)
   unfolding placed
