@@ -23,7 +23,7 @@ loops = 1024
 abbrev pub heads : ℕ
 heads = 2048
 
--- "A find has at most 16,384 numbers": twice as many as the rows of any scope take
+-- "A find has … at most 16,384 numbers: twice as many as the rows of 1,024 nodes take."
 abbrev pub found : ℕ
 found = 16384
 
