@@ -83,3 +83,11 @@ valueOr before t = firstOr (t .values)
     firstOr none = before
     firstOr (some []) = before
     firstOr (some (n ∷ rest)) = n
+
+-- The limit told, 0 where none is found, or `before` where the finder refuses.
+abbrev pub limitOr : ℕ → Told → ℕ
+limitOr before t = valueOr (noneOr (t .values)) t
+  where
+    noneOr : Option (List ℕ) → ℕ
+    noneOr none = before
+    noneOr (some values) = 0
