@@ -5,18 +5,14 @@ use native.Mathlib.Decide.{ℕ-discrete}
 use native.Mathlib.Numerals.{add-one, unary-clauses}
 use mathlib.Core.Path.{_≡_, refl, sym, _∙_, ap, subst}
 use mathlib.Core.List.{List, [], _∷_, _++_}
-use lib.ListN.{length, getD, set, drop}
-use lib.Seq.{sets}
+use lib.ListN.{length, getD, set, drop, length-append, length-drop}
 use Rattle.lines.specs.Lines.{eight}
 use Rattle.lines.proofs.Eight.{made-of}
-use Rattle.puts.specs.Put.{Put}
-use Rattle.puts.proofs.Putting.{put-length, put-then, put-whole}
-use Rattle.paper.specs.Lists.{table, each}
-use Rattle.paper.proofs.TableLaws.{same-table, table-is}
+use Rattle.paper.specs.Lists.{each}
 use Rattle.search.specs.Steps.{plainAt, plain, lowered}
 use Rattle.search.specs.Passes.{tableRow, withRow}
-use Rattle.search.proofs.Tables.{row-entry, with-length, with-entry, with-others}
-use Rattle.search.proofs.Found.{each-length, lowered-long}
+use Rattle.search.proofs.Tables.{with-length, with-is, with-others}
+use Rattle.search.proofs.Found.{each-length, rows-more, lowered-long}
 
 pub read-row : (l : List ℕ) (j : ℕ) →
     getD l (8 * j) 0
@@ -42,14 +38,9 @@ pub stored-row : (l : List ℕ) (j : ℕ) (r : List ℕ) →
 unfolding withRow eight
 stored-row l j r = simp unary-clauses refl
 
-with-same : (l : List ℕ) (j : ℕ) (r : List ℕ) → 8 * j + 8 ≤ length l → tableRow (withRow l j r) j ≡ eight (λ i. getD r i 0)
-unfolding tableRow eight table
-with-same l j r h =
-    same-table (λ i. getD (withRow l j r) (8 * j + i) 0) (λ i. getD r i 0) 8 (λ i m. sym (row-entry (withRow l j r) j i m) ∙ with-entry l j r h i m)
-
-nine : eight (λ i. getD (plain 9) i 0) ≡ plain 9
-unfolding eight plain plainAt
-nine = refl
+plain-long : (n : ℕ) → length (plain n) ≡ 8
+unfolding plain eight
+plain-long n = refl
 
 -- the first j of n rows are 9, and the table is as long as it was
 module _ (old : List ℕ) (n : ℕ) where
@@ -69,45 +60,45 @@ module _ (old : List ℕ) (n : ℕ) where
         kept = with-length l j (plain 9) ∙ w .kept;
         nines = λ k m.
             elim (ℕ-discrete k j) [
-              | yes z ↦ rw z (with-same l j (plain 9) (omega (arith, w .kept)) ∙ nine)
+              | yes z ↦ rw z (with-is l j (plain 9) (omega (arith, w .kept)) (plain-long 9))
               | no d ↦ with-others l j (plain 9) k d ∙ w .nines k (omega arith)
             ];
       })
 
--- a row of eight is its eight numbers
-whole-row : (r : List ℕ) → length r ≡ 8 → eight (λ i. getD r i 0) ≡ r
-unfolding eight table
-whole-row r h = table-is (λ i. getD r i 0) 8 r h (λ i m. refl)
-
--- the first j rows of the table, for the limit l, are put one after another into the lent rows
-module _ (lent table : List ℕ) (l : ℕ) where
+-- the first j of n rows of the table, for the limit l, are put one after another into the lent rows
+module _ (lent table : List ℕ) (l n : ℕ) where
   abbrev lentRow : ℕ → List ℕ
   lentRow j = lowered l (tableRow table j)
 
-  pub record Lending (n j : ℕ) (rows : List ℕ) : Type 0 where
+  pub record Lending (j : ℕ) (rows : List ℕ) : Type 0 where
     pub within : j ≤ n
-    pub put : Put lent 0 (each lentRow j) (8 * j) rows
+    pub list : rows ≡ each lentRow j ++ drop (8 * j) lent
 
-  pub lending-start : (n : ℕ) → Lending n 0 lent
+  pub lending-start : Lending 0 lent
   unfolding each
-  lending-start n = record { within = omega arith; put = record { list = refl; place = refl } }
+  lending-start = record { within = omega arith; list = refl }
 
-  pub lending-kept : (n j : ℕ) (rows : List ℕ) → Lending n j rows → length rows ≡ length lent
-  lending-kept n j rows w = put-length (w .put)
+  module _ (room : 8 * n ≤ length lent) where
+    pub lending-kept : (j : ℕ) (rows : List ℕ) → Lending j rows → length rows ≡ length lent
+    lending-kept j rows w =
+        omega (
+          arith,
+          ap length (w .list),
+          length-append (each lentRow j) (drop (8 * j) lent),
+          each-length lentRow (lowered-long l table) j,
+          length-drop (8 * j) lent,
+          w .within,
+        )
 
-  pub lending-more : (n j : ℕ) (rows : List ℕ) → Lending n j rows → j < n → (r : List ℕ) → r ≡ lentRow j → Lending n (j + 1) (withRow rows j r)
-  unfolding each withRow
-  lending-more n j rows w h r p =
-      let d = lowered-long l table j in
-      let q : Put rows (8 * j) (lentRow j) (8 * suc j) (withRow rows j r) =
-      record {
-        list = ap (λ (x : List ℕ). sets rows (8 * j) (eight (λ i. getD x i 0))) p ∙ ap (sets rows (8 * j)) (whole-row (lentRow j) d);
-        place = omega arith;
-      } in
-      rw (add-one j) (record { within = h; put = put-then (w .put) q })
+    pub lending-more : (j : ℕ) (rows rows′ r : List ℕ) → Lending j rows → j < n → r ≡ lentRow j → rows′ ≡ withRow rows j r → Lending (j + 1) rows′
+    lending-more j rows rows′ r w h p q =
+        rw (add-one j)
+        (record {
+          within = h;
+          list = q ∙ ap (withRow rows j) p ∙ ap (λ (x : List ℕ). withRow x j (lentRow j)) (w .list) ∙ rows-more lentRow (lowered-long l table) lent j (omega arith);
+        })
 
-  pub lending-end : (n j : ℕ) (rows : List ℕ) → Lending n j rows → n ≤ j → 8 * n ≤ length lent → rows ≡ each lentRow n ++ drop (8 * n) lent
-  lending-end n j rows w h room =
+  pub lending-end : (j : ℕ) (rows : List ℕ) → Lending j rows → n ≤ j → rows ≡ each lentRow n ++ drop (8 * n) lent
+  lending-end j rows w h =
       let z : j ≡ n = omega (arith, w .within) in
-      let p : Put lent 0 (each lentRow n) (8 * n) rows = rw z at (w .put) in
-      put-whole (record { room = omega (arith, each-length lentRow (lowered-long l table) n) }) p .1
+      w .list ∙ ap (λ (k : ℕ). each lentRow k ++ drop (8 * k) lent) z

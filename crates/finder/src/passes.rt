@@ -1,6 +1,5 @@
 // Passes over the edges of the scope, in file order, until nothing changes.
 ghost use mathlib.Core.Path.{_≡_};
-ghost use mathlib.Core.Bool.{true};
 ghost use Prim.Native.Nat.{_<_};
 ghost use Rattle.paper.specs.Cases.{inside};
 ghost use Rattle.paper.specs.Files.{caseOf};

@@ -1,8 +1,7 @@
 // Rows by value: the number and seven slots. No slot is looked at in turn where all can be taken at once.
 ghost use mathlib.Core.Path.{_≡_};
 ghost use mathlib.Core.Bool.{true};
-ghost use Prim.Native.Nat.{_≤_, _<_, min, max, suc};
-ghost use lib.Dec.{ltb};
+ghost use Prim.Native.Nat.{_≤_, _<_, min, max};
 ghost use Rattle.search.specs.Steps as Steps;
 
 // A row without blocks: all slots are free.
@@ -56,9 +55,9 @@ pub fn opened(s: [u16; 8]) -> [u16; 8]
     if s[0] == 9 { plain(0) } else { s }
 }
 
-// One block more is fewer than k.
-fn has_room(k: u16, n: u16) -> bool
-    ensures { λ r. ⌜ r ≡ ltb (suc n) k ⌝ }
+// A set of n blocks and one more is still fewer than k. (32 bits hold one more than any 16.)
+fn still_fits(k: u16, n: u16) -> bool
+    ensures { λ r. ⌜ r ≡ Steps.fits k n ⌝ }
     ensures { λ r. ⌜ (r ≡ true → n < 65535) ⌝ }
 {
     (n as u32) + 1 < k as u32
@@ -71,7 +70,7 @@ pub fn put(k: u16, r: [u16; 8], c: u16) -> [u16; 8]
     if (r[0] == 8) | among(r, c) {
         return r;
     }
-    if has_room(k, r[0]) {
+    if still_fits(k, r[0]) {
         return grown(r, c);
     }
     plain(8)

@@ -33,7 +33,7 @@ returns : tie.Need-returns
 returns c =
     let m = c .before in
     let p = start (counted m) .pre in
-    ends-none _ _ _ _ (p .0) _ (p .1 .1) _ (m .before .before .settle .ensures) _ (m .most-asked .ensures) (c .if1 .taken)
+    ends-none _ _ _ _ (p .0) _ (p .1 .1) _ (m .before .before .settle .ensures) _ (m .most-asked .ensures) (omega (arith, c .if1 .taken))
 
 lend-rows-requires : tie.Need-lend-rows-requires
 lend-rows-requires c κs =

@@ -12,21 +12,21 @@ returns c = rw (← c .before .among .ensures, c .if1 .taken) refl
 grown-requires : tie.Need-grown-requires
 grown-requires c κs =
     let room = c .before in
-    room .has-room .ensures .1 (c .if2 .taken)
+    room .still-fits .ensures .1 (c .if2 .taken)
 
 returns-2 : tie.Need-returns-2
 unfolding put
 returns-2 c =
     let room = c .before .before in
     let full = room .before in
-    rw (← full .before .among .ensures, full .if1 .left, ← room .has-room .ensures .0, c .before .if2 .taken) (c .grown .ensures)
+    rw (← full .before .among .ensures, full .if1 .left, ← room .still-fits .ensures .0, c .before .if2 .taken) (c .grown .ensures)
 
 returns-3 : tie.Need-returns-3
 unfolding put
 returns-3 c =
     let room = c .before .before in
     let full = room .before in
-    rw (← full .before .among .ensures, full .if1 .left, ← room .has-room .ensures .0, c .before .if2 .left) (c .plain .ensures)
+    rw (← full .before .among .ensures, full .if1 .left, ← room .still-fits .ensures .0, c .before .if2 .left) (c .plain .ensures)
 
 pub put-spec : {M : Type 1} → statement M
 put-spec =
