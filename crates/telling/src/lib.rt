@@ -67,9 +67,9 @@ pub fn find(answer: FindAnswer, limit: &mut u16, place: &mut u64) -> u8
             *place = 0;
             0
         }
-        FindAnswer::Refused(why) => {
-            *place = why.place as u64;
-            why.number
+        FindAnswer::Refused(unsound) => {
+            *place = unsound.place as u64;
+            unsound.number
         }
     }
 }
