@@ -1,8 +1,9 @@
 /* Makes a sound case file for the benchmark: 1,024 nodes, 64 loops three deep, facts with the smallest rows that are evidence.
- * usage: make_case small|large|exact POLICY > FILE
+ * usage: make_case small|large|exact|deep POLICY > FILE
  *   small   4,096 edges, and facts over loops, as many as fit in 65,536 bytes
  *   large   4,096 edges, and 256 facts over the whole graph: the largest file that can be accepted, 4,214,816 bytes
- *   exact   facts over loops, and as many edges as make it 65,536 bytes to the byte */
+ *   exact   facts over loops, and as many edges as make it 65,536 bytes to the byte
+ *   deep    4,096 edges, loops eight deep, and no facts: they are to be found */
 #include <stdint.h>
 #include <stdio.h>
 #include <stdlib.h>
@@ -10,7 +11,7 @@
 
 enum { NODES = 1024, MOST_EDGES = 4096, LOOPS = 64, MOST_FACTS = 256, WAYS = 8, BYTES = 65536 };
 enum { NONE = 65535, WHOLE = 65535, MANY = 8, NOT_SINCE = 9, TRAILER = 32, FACT_HEAD = 6, ROW = 16 };
-enum { GROUP = 64 }; /* nodes of an outermost loop with its inner ones */
+enum { GROUP = 64, DEEP_GROUP = 128, DEPTH = 8 }; /* nodes of an outermost loop with its inner ones */
 
 struct loop {
     unsigned first, last, bound;
@@ -54,6 +55,15 @@ static void make_loops(void)
     for (unsigned j = 0; j < LOOPS; j++) {
         unsigned at = j / 4 * GROUP;
         loops[j] = (struct loop){at + group[j % 4].first, at + group[j % 4].last, group[j % 4].bound + j};
+    }
+}
+
+/* Each holds the next one, with five nodes before it and five behind. */
+static void make_deep_loops(void)
+{
+    for (unsigned j = 0; j < LOOPS; j++) {
+        unsigned at = j / DEPTH * DEEP_GROUP, in = 2 + 5 * (j % DEPTH);
+        loops[j] = (struct loop){at + in, at + DEEP_GROUP - 1 - in, 2 + j % DEPTH};
     }
 }
 
@@ -300,14 +310,17 @@ int main(int argc, char **argv)
 {
     if (argc != 3)
         return 2;
-    int large = strcmp(argv[1], "large") == 0, exact = strcmp(argv[1], "exact") == 0;
-    sets = large ? 64 : 4;
-    make_nodes(large ? 1 : 2);
-    make_loops();
+    int large = strcmp(argv[1], "large") == 0, exact = strcmp(argv[1], "exact") == 0, deep = strcmp(argv[1], "deep") == 0;
+    sets = large ? 64 : deep ? 16 : 4;
+    make_nodes(large || deep ? 1 : 2);
+    if (deep)
+        make_deep_loops();
+    else
+        make_loops();
     make_edges();
     list_edges();
     size_t rest = 2 * NODES + 4 * edges + 8 * LOOPS + TRAILER, total = rest;
-    unsigned count = large ? facts_over_graph() : facts_over_loops(BYTES - rest, exact);
+    unsigned count = deep ? 0 : large ? facts_over_graph() : facts_over_loops(BYTES - rest, exact);
     for (unsigned i = 0; i < count; i++)
         total += size_of(facts[i]);
     if (exact)

@@ -18,3 +18,6 @@ uint8_t plain_write(uint8_t policy, uint8_t ways, uint8_t sets, const uint16_t *
                     size_t edges_length, const uint32_t *loops, size_t loops_length, const uint16_t *heads, size_t heads_length,
                     const uint16_t *rows, size_t rows_length, uint8_t *out, size_t out_length, uint64_t *length, uint64_t *place,
                     uint64_t *second);
+
+uint8_t plain_find(const uint8_t *file, size_t file_length, uint16_t scope, uint16_t block, uint16_t *rows, size_t rows_length, uint16_t *limit,
+                   uint64_t *place);

@@ -1,4 +1,4 @@
-# Numbers as bytes, little-endian, and a row of evidence: for examples/make and examples/pipe-write, which source it.
+# Numbers as bytes, little-endian, and a row of evidence: for examples/make, examples/pipe-write and examples/pipe-find, which source it.
 # shellcheck shell=sh
 
 # shellcheck disable=SC2059

@@ -52,6 +52,19 @@ uint8_t bolgverk_write(uint8_t policy, uint8_t ways, uint8_t sets, const uint16_
                        const uint16_t *rows, size_t rows_length, uint8_t *out, size_t out_length, uint64_t *length, uint64_t *place,
                        uint64_t *second);
 
+/* Finds the smallest age limit of a block in a scope for which evidence exists, and the evidence: what bolgverk_write takes as a fact's rows and
+ * bolgverk_check accepts. The file's own facts, and whatever else stands between its loops and the trailer, are not looked at.
+ *   file, file_length        the file's bytes; only read
+ *   scope                    a loop's number, or 65,535 for the whole graph
+ *   block                    the block
+ *   rows, rows_length        gets eight numbers for each node of the scope, if a limit is found; numbers past them stay as they are
+ *   limit                    gets the limit, or 0 where no limit up to the ways has evidence, if nothing is refused; rows then stays as it is
+ *   place                    gets the refusal's place, 0 if nothing is refused; always written
+ * Returns 0, or the refusal's number: 1 to 10 (26 after 9) as the check has them, then 12 where scope or block is out of range, 14, and 20
+ * where rows_length is below eight numbers for each node of the scope. The place of these last three is 0. */
+uint8_t bolgverk_find(const uint8_t *file, size_t file_length, uint16_t scope, uint16_t block, uint16_t *rows, size_t rows_length,
+                      uint16_t *limit, uint64_t *place);
+
 /* Runs a trace of block accesses from empty sets.
  *   policy, ways, sets       the cache
  *   blocks, blocks_length    the accesses in order; only read
@@ -99,15 +112,15 @@ uint8_t bolgverk_set_of(uint16_t block, uint8_t sets, uint8_t *set);
  *    9  a backward edge does not lead to the header of a loop around its source                              edge           0
  *   10  a node's count is above 4,294,967,295                                                                node           0
  *   11  fewer than 6 bytes are left for a fact                                                               fact           0
- *   12  a fact's loop number, block or age limit out of range                                                fact           0
+ *   12  a fact's loop number, block or age limit out of range                                                fact, find: 0  0
  *   13  a fact's block is below the previous fact's, or equal and its scope starts at or before the previous scope's last node fact           0
- *   14  no node of a fact's scope fetches its block                                                          fact           0
+ *   14  no node of a fact's scope fetches its block                                                          fact, find: 0  0
  *   15  a fact's rows are cut short, or the writer is handed more or fewer than its scope has nodes          fact           0
  *   16  a row is not sound                                                                                   fact           node
  *   17  a set is followed by row 9, or by a set that lacks a block                                           fact           edge
  *   18  a node that fetches the fact's block has row 8 ("many")                                              fact           node
  *   19  bytes are left between the last fact and the trailer                                                 0              0
- *   20  the lent list is too short: 321 numbers, one byte an access, or the file's bytes                     0              0
+ *   20  the lent list is too short: 321 numbers, one byte an access, the file's bytes, or the rows found     0              0
  *   21  block 65,535 is accessed, or an address's block is above 65,534                                      access, else 0 0
  *   22  the set's state is not legal                                                                         0              0
  *   23  the line size is none of 8, 16, 32, 64, 128                                                          0              0

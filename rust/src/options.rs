@@ -15,6 +15,7 @@ parts:
   writes      contents, sound and damaged: the files that are written, and refusals
   bounds      what the program `bounds` prints for case files, sound, damaged and too long
   evidence    evidence exists exactly when it should
+  finds       facts that are found in graphs without them: limits and rows, and refusals
   walks       no walk through an accepted file misses more than its bounds say
   must-break  wrong bounds, each with a file, a walk and a content that exceed it (`pipe` may be left out)
   search      looks for such files anew, with random walks (needs no `pipe`)
@@ -34,6 +35,7 @@ options:
   --graphs N    small graphs whose evidence is tried (600)
   --walked N    small files that are walked through, or searched (10000)
   --written N   contents that are written (10000)
+  --searched N  small graphs that facts are found in (1000)
 ";
 
 pub struct Options {
@@ -53,6 +55,7 @@ pub fn read(arguments: impl Iterator<Item = String>) -> Result<Options, String> 
         graphs: 600,
         walked: 10_000,
         written: 10_000,
+        searched: 1_000,
         library: None,
     };
     let mut options = Options { settings, pipe: None, bounds: None, parts: Vec::new() };
@@ -94,6 +97,7 @@ impl Options {
             "--graphs" => self.settings.graphs = number,
             "--walked" => self.settings.walked = number,
             "--written" => self.settings.written = number,
+            "--searched" => self.settings.searched = number,
             _ => return Err(format!("no option {option}")),
         }
         Ok(())

@@ -1,6 +1,6 @@
 //! The second simulator's answer to any request of `pipe`.
 
-use crate::case::{check, write, Paper};
+use crate::case::{check, find, write, Paper};
 use crate::machine::{address, step, trace, Outcome};
 use crate::pipe::{Answer, Body, Request};
 use crate::refusal::Refusal;
@@ -35,6 +35,12 @@ pub fn answer(request: &Request) -> Answer {
             let written = write(content, &mut after);
             let refused = Body::Write { length: 0, out: out.clone() };
             outcome(written, refused, |length| Body::Write { length: length as u64, out: after })
+        }
+        Request::Find { file, scope, block, rows } => {
+            let mut after = rows.clone();
+            let found = find(file, *scope, *block, &mut after);
+            let refused = Body::Find { limit: 0, rows: rows.clone() };
+            outcome(found, refused, |limit| Body::Find { limit: limit.unwrap_or(0) as u16, rows: after })
         }
     }
 }

@@ -1,6 +1,6 @@
-//! The two ways to gather agree, sound files pass, and every wrong rule is broken.
+//! The three ways to gather agree, sound files pass, and every wrong rule is broken.
 
-use second::case::{judge, Graph, Paper};
+use second::case::{judge, Gathered, Graph, Paper};
 use second::compare::gathering::gather;
 use second::generate::braids::braid;
 use second::generate::cases::{sound, Plan};
@@ -19,8 +19,10 @@ fn walks_gather_what_rounds_gather() {
         let graph = Graph::new(&draft.lists);
         for (scope, block) in graph.scopes().into_iter().flat_map(|scope| (0..9).map(move |block| (scope, block))) {
             let question = Question { geometry, graph: &graph, rules: &Paper, scope, block };
+            let gathered = gather(geometry, &graph, scope, block);
+            assert_eq!(gathered, Gathered::since(geometry, &graph, scope, block));
             for limit in 1..=8 {
-                assert_eq!(gather(geometry, &graph, scope, block).rows(limit), question.least_rows(limit));
+                assert_eq!(gathered.rows(limit), question.least_rows(limit));
             }
         }
     }

@@ -1,6 +1,7 @@
 // The answers of `pipe`, each made in lent bytes: docs/PIPE.md in words, crates/frames/specs/Frames.antt as definitions. What is read and what is written is the program's.
 pub mod addresses;
 pub mod checks;
+pub mod finds;
 pub mod sets;
 pub mod steps;
 pub mod traces;
@@ -28,6 +29,9 @@ pub const LOOPS: usize = 1024;
 
 pub const HEADS: usize = 2048;
 
+// Numbers in the rows that a finder is lent.
+pub const FOUND: usize = 16384;
+
 // The bytes that a writer is lent.
 pub const OUT: usize = 2150000;
 
@@ -46,6 +50,7 @@ pub fn argument_bytes(operation: u8) -> usize
         4 => places::TRACE_SIZE,
         5 => places::CHECK_SIZE,
         6 => places::WRITE_SIZE,
+        7 => places::FIND_SIZE,
         _ => 0,
     }
 }

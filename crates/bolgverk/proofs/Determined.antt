@@ -13,13 +13,15 @@ use Rattle.paper.specs.declared.SetAnswer.{SetAnswer}
 use Rattle.paper.specs.declared.TraceAnswer.{TraceAnswer}
 use Rattle.paper.specs.declared.Verdict.{Verdict}
 use Rattle.paper.specs.declared.WriteAnswer.{WriteAnswer}
+use Rattle.paper.specs.declared.FindAnswer.{FindAnswer}
 use Rattle.paper.specs.Operations.{stepAnswer, blockAnswer, setAnswer}
 use Rattle.paper.specs.Traces.{traceRun}
 use Rattle.paper.specs.Verdicts.{verdict, lentAfter}
 use Rattle.paper.specs.Writing.{writeVerdict, writeAnswer}
 use Rattle.lists.specs.Listings.{offered}
-use Rattle.paper.proofs.AnswerLaws.{same-verdict, same-trace, same-outcome, same-block, same-set, same-write}
-use Rattle.bolgverk.specs.Promises.{StepPromise, BlockPromise, SetPromise, TracePromise, CheckPromise, WritePromise}
+use Rattle.paper.proofs.AnswerLaws.{same-verdict, same-trace, same-outcome, same-block, same-set, same-write, same-find}
+use Rattle.theory.proofs.FoundOnce.{outcome-once}
+use Rattle.bolgverk.specs.Promises.{StepPromise, BlockPromise, SetPromise, TracePromise, CheckPromise, WritePromise, FindPromise}
 
 answer-of : (r r′ : StepAnswer) → r .state ≡ r′ .state → r .outcome ≡ r′ .outcome → r ≡ r′
 answer-of r r′ s o =
@@ -74,3 +76,10 @@ module _ (policy ways sets : ℕ) (nodes edges loops heads rows lent : List ℕ)
       WritePromise policy ways sets nodes edges loops heads rows lent r after → WritePromise policy ways sets nodes edges loops heads rows lent r′ after′ →
       (r ≡ r′) × (after ≡ after′)
   write-determined r r′ after after′ p q = (write-answer r after p ∙ sym (write-answer r′ after′ q), p .bytes ∙ sym (q .bytes))
+
+module _ (file : List ℕ) (scope block : ℕ) (lent : List ℕ) where
+  pub find-determined : (r r′ : FindAnswer) (after after′ : List ℕ) →
+      FindPromise file scope block lent r after → FindPromise file scope block lent r′ after′ → (r ≡ r′) × (after ≡ after′)
+  find-determined r r′ after after′ p q =
+      let o = outcome-once file scope block lent _ _ after after′ (p .outcome) (q .outcome) in
+      (same-find r r′ (o .0), o .1)

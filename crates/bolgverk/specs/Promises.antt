@@ -13,14 +13,16 @@ use Rattle.paper.specs.declared.SetAnswer.{SetAnswer}
 use Rattle.paper.specs.declared.TraceAnswer.{TraceAnswer}
 use Rattle.paper.specs.declared.Verdict.{Verdict}
 use Rattle.paper.specs.declared.WriteAnswer.{WriteAnswer}
+use Rattle.paper.specs.declared.FindAnswer.{FindAnswer}
 use Rattle.paper.specs.declared.Verdict.the-variants.{Accepted}
-use Rattle.paper.specs.Answers.{toldVerdict, toldTrace, toldOutcome, toldBlock, toldSet, toldWrite}
+use Rattle.paper.specs.Answers.{toldVerdict, toldTrace, toldOutcome, toldBlock, toldSet, toldWrite, toldFind}
 use Rattle.paper.specs.Operations.{stepAnswer, blockAnswer, setAnswer}
 use Rattle.paper.specs.Traces.{traceRun}
 use Rattle.paper.specs.Files.{readCase}
 use Rattle.paper.specs.Verdicts.{verdict, lentAfter}
 use Rattle.paper.specs.Demands.{Holds, EvidenceExact}
 use Rattle.paper.specs.Writing.{writeVerdict, writeAnswer, outAfter, ReadsBack, WritesBack}
+use Rattle.paper.specs.Finding.{FindOutcome}
 use Rattle.lists.specs.Listings.{offered}
 
 -- A step's answer is a state and an outcome.
@@ -57,3 +59,8 @@ pub record WritePromise (policy ways sets : ℕ) (nodes edges loops heads rows l
       after ≡ outAfter c lent (writeVerdict c (length lent))
   pub reads : ReadsBack (offered policy ways sets nodes edges loops heads rows) (length lent)
   pub again : (f : List ℕ) → WritesBack f
+
+-- `lent` and `after`: the lent rows before and after. The outcome is a refusal, or none where no limit up to k has evidence that the tool accepts, or the least limit that has and the rows that say
+-- what walks gather: those stand in the lent rows, and the tool accepts them.
+pub record FindPromise (file : List ℕ) (scope block : ℕ) (lent : List ℕ) (r : FindAnswer) (after : List ℕ) : Type 0 where
+  pub outcome : FindOutcome file scope block lent (toldFind r) after

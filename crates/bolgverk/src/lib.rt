@@ -1,9 +1,10 @@
 // The public face of Bolgverk: every public operation, each thin, with its whole promise. Each takes every input.
-ghost use Rattle.bolgverk.specs.Promises.{StepPromise, BlockPromise, SetPromise, TracePromise, CheckPromise, WritePromise};
+ghost use Rattle.bolgverk.specs.Promises.{StepPromise, BlockPromise, SetPromise, TracePromise, CheckPromise, WritePromise, FindPromise};
 use layout::Layout;
 use paper::Address;
 use paper::Block;
 use paper::BlockAnswer;
+use paper::FindAnswer;
 use paper::LIST_LENGTH;
 use paper::SetAnswer;
 use paper::SetState;
@@ -69,4 +70,11 @@ pub fn write(
     ensures { λ r. ⌜ WritePromise policy ways sets (now (nodes .entry)) (now (edges .entry)) (now (loops .entry)) (now (heads .entry)) (now (rows .entry)) (now (out .entry)) r (now (out .exit)) ⌝ }
 {
     writer::write(policy, ways, sets, nodes, edges, loops, heads, rows, out)
+}
+
+// "the smallest age limit up to k for which evidence exists, with the rows"
+pub fn find(file: &[u8], scope: u16, block: u16, rows: &mut [u16]) -> FindAnswer
+    ensures { λ r. ⌜ FindPromise (now (file .entry)) scope block (now (rows .entry)) r (now (rows .exit)) ⌝ }
+{
+    finder::find(file, scope, block, rows)
 }

@@ -12,11 +12,13 @@ use Rattle.paper.specs.declared.StepAnswer.{StepAnswer}
 use Rattle.paper.specs.declared.BlockAnswer.{BlockAnswer}
 use Rattle.paper.specs.declared.SetAnswer.{SetAnswer}
 use Rattle.paper.specs.declared.WriteAnswer.{WriteAnswer}
-use Rattle.paper.specs.Answers.{Told, toldVerdict, toldTrace, toldOutcome, toldBlock, toldSet, toldWrite, valueOr}
+use Rattle.paper.specs.declared.FindAnswer.{FindAnswer}
+use Rattle.paper.specs.Answers.{Told, toldVerdict, toldTrace, toldOutcome, toldBlock, toldSet, toldWrite, toldFind, valueOr, limitOr}
 use Rattle.paper.specs.Writing.{FileContent}
-use Rattle.paper.proofs.RefusalLaws.{verdict-numbered, trace-numbered, step-numbered, block-numbered, set-numbered, write-numbered}
-use Rattle.bolgverk.specs.Promises.{StepPromise, BlockPromise, SetPromise, TracePromise, CheckPromise, WritePromise}
-use Rattle.exports.specs.Calls.{CheckCall, WriteCall, TraceCall, StepCall, BlockCall, SetCall}
+use Rattle.paper.specs.Finding.{FindOutcome, refused, nothing, found}
+use Rattle.paper.proofs.RefusalLaws.{verdict-numbered, trace-numbered, step-numbered, block-numbered, set-numbered, write-numbered, find-numbered}
+use Rattle.bolgverk.specs.Promises.{StepPromise, BlockPromise, SetPromise, TracePromise, CheckPromise, WritePromise, FindPromise}
+use Rattle.exports.specs.Calls.{CheckCall, WriteCall, FindCall, TraceCall, StepCall, BlockCall, SetCall}
 
 -- an answer that tells what the paper's does
 refused-as : (low : ℕ) (t t′ : Told) → t ≡ t′ → (t′ .values ≡ none → low ≤ t′ .number) → t .values ≡ none → low ≤ t .number
@@ -53,6 +55,23 @@ module _ (policy ways sets : ℕ) (nodes edges loops heads rows lent : List ℕ)
       let c : FileContent = record { policy = policy; ways = ways; sets = sets; nodes = nodes; edges = edges; loops = loops; heads = heads; rows = rows } in
       let k = refused-as 1 _ _ (p .told) (write-numbered c (length lent) .refused) in
       record { answer = v; promise = p; number = n; length = l; place = a; second = s; refused = λ h. number-as 1 r _ n (k h) }
+
+-- of the finder's outcomes only a refusal has no value, and its number is not 0
+module _ (file : List ℕ) (scope block : ℕ) (lent : List ℕ) where
+  outcome-numbered : (t : Told) (left : List ℕ) → FindOutcome file scope block lent t left → t .values ≡ none → 1 ≤ t .number
+  outcome-numbered t left (refused why j) h = subst (λ (v : Verdict). toldVerdict v .values ≡ none → 1 ≤ toldVerdict v .number) j (find-numbered file scope block (length lent) .refused) refl
+  outcome-numbered t left (nothing j n) h =
+      let z : _≡_ {A = ℕ} 0 1 = cc in
+      absurd (omega arith)
+  outcome-numbered t left (found j l rows f) h =
+      let z : _≡_ {A = ℕ} 0 1 = cc in
+      absurd (omega arith)
+
+module _ (file : List ℕ) (scope block : ℕ) (lent : List ℕ) (before r least at : ℕ) (after : List ℕ) where
+  pub find-call : (v : FindAnswer) → FindPromise file scope block lent v after → r ≡ toldFind v .number → least ≡ limitOr before (toldFind v) → at ≡ toldFind v .place →
+      FindCall file scope block lent before r least at after
+  find-call v p n l a =
+      record { answer = v; promise = p; number = n; limit = l; place = a; refused = λ h. number-as 1 r _ n (outcome-numbered file scope block lent (toldFind v) after (p .outcome) h) }
 
 module _ (policy ways sets : ℕ) (blocks lent : List ℕ) (before r counted at : ℕ) (after : List ℕ) where
   pub trace-call : (v : TraceAnswer) → TracePromise policy ways sets blocks lent v after → r ≡ toldTrace v .number → at ≡ toldTrace v .place →

@@ -8,9 +8,10 @@ use Rattle.paper.specs.declared.StepAnswer.{StepAnswer}
 use Rattle.paper.specs.declared.BlockAnswer.{BlockAnswer}
 use Rattle.paper.specs.declared.SetAnswer.{SetAnswer}
 use Rattle.paper.specs.declared.WriteAnswer.{WriteAnswer}
-use Rattle.paper.specs.Answers.{toldVerdict, toldTrace, toldOutcome, toldBlock, toldSet, toldWrite, valueOr}
-use Rattle.bolgverk.proofs.Determined.{step-determined, block-determined, set-determined, trace-determined, check-determined, write-determined}
-use Rattle.exports.specs.Calls.{CheckCall, WriteCall, TraceCall, StepCall, BlockCall, SetCall}
+use Rattle.paper.specs.declared.FindAnswer.{FindAnswer}
+use Rattle.paper.specs.Answers.{toldVerdict, toldTrace, toldOutcome, toldBlock, toldSet, toldWrite, toldFind, valueOr, limitOr}
+use Rattle.bolgverk.proofs.Determined.{step-determined, block-determined, set-determined, trace-determined, check-determined, write-determined, find-determined}
+use Rattle.exports.specs.Calls.{CheckCall, WriteCall, FindCall, TraceCall, StepCall, BlockCall, SetCall}
 
 -- two results that are the same function of answers that are the same
 same : {A B : Type 0} (f : A → B) {v v′ : A} {x x′ : B} → v ≡ v′ → x ≡ f v → x′ ≡ f v′ → x ≡ x′
@@ -36,6 +37,17 @@ module _ (policy ways sets : ℕ) (nodes edges loops heads rows lent : List ℕ)
         same (λ (v : WriteAnswer). valueOr before (toldWrite v)) (e .0) (p .length) (q .length),
         same (λ (v : WriteAnswer). toldWrite v .place) (e .0) (p .place) (q .place),
         same (λ (v : WriteAnswer). toldWrite v .second) (e .0) (p .second) (q .second),
+        e .1,
+      )
+
+module _ (file : List ℕ) (scope block : ℕ) (lent : List ℕ) (before r r′ least least′ at at′ : ℕ) (after after′ : List ℕ) where
+  pub find-call-determined : FindCall file scope block lent before r least at after → FindCall file scope block lent before r′ least′ at′ after′ →
+      (r ≡ r′) × (least ≡ least′) × (at ≡ at′) × (after ≡ after′)
+  find-call-determined p q =
+      let e = find-determined file scope block lent _ _ _ _ (p .promise) (q .promise) in (
+        same (λ (v : FindAnswer). toldFind v .number) (e .0) (p .number) (q .number),
+        same (λ (v : FindAnswer). limitOr before (toldFind v)) (e .0) (p .limit) (q .limit),
+        same (λ (v : FindAnswer). toldFind v .place) (e .0) (p .place) (q .place),
         e .1,
       )
 

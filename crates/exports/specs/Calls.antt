@@ -11,10 +11,11 @@ use Rattle.paper.specs.declared.StepAnswer.{StepAnswer}
 use Rattle.paper.specs.declared.BlockAnswer.{BlockAnswer}
 use Rattle.paper.specs.declared.SetAnswer.{SetAnswer}
 use Rattle.paper.specs.declared.WriteAnswer.{WriteAnswer}
-use Rattle.paper.specs.Answers.{toldVerdict, toldTrace, toldOutcome, toldBlock, toldSet, toldWrite, valueOr}
+use Rattle.paper.specs.declared.FindAnswer.{FindAnswer}
+use Rattle.paper.specs.Answers.{toldVerdict, toldTrace, toldOutcome, toldBlock, toldSet, toldWrite, toldFind, valueOr, limitOr}
 use Rattle.paper.specs.Files.{readCase}
 use Rattle.paper.specs.Demands.{Holds}
-use Rattle.bolgverk.specs.Promises.{StepPromise, BlockPromise, SetPromise, TracePromise, CheckPromise, WritePromise}
+use Rattle.bolgverk.specs.Promises.{StepPromise, BlockPromise, SetPromise, TracePromise, CheckPromise, WritePromise, FindPromise}
 
 -- The refusal's number, or 0; its places, or 0; the lent numbers afterwards. `holds`: demand 3's bounds, where 0 is returned; its other half is in the promise.
 pub record CheckCall (file lent : List ℕ) (r at within : ℕ) (after : List ℕ) : Type 0 where
@@ -35,6 +36,15 @@ pub record WriteCall (policy ways sets : ℕ) (nodes edges loops heads rows lent
   pub place : at ≡ toldWrite answer .place
   pub second : within ≡ toldWrite answer .second
   pub refused : toldWrite answer .values ≡ none → 1 ≤ r
+
+-- The refusal's number, or 0; its place, or 0; the limit, 0 where none is found; the lent rows afterwards.
+pub record FindCall (file : List ℕ) (scope block : ℕ) (lent : List ℕ) (before r least at : ℕ) (after : List ℕ) : Type 0 where
+  pub answer : FindAnswer
+  pub promise : FindPromise file scope block lent answer after
+  pub number : r ≡ toldFind answer .number
+  pub limit : least ≡ limitOr before (toldFind answer)
+  pub place : at ≡ toldFind answer .place
+  pub refused : toldFind answer .values ≡ none → 1 ≤ r
 
 pub record TraceCall (policy ways sets : ℕ) (blocks lent : List ℕ) (before r counted at : ℕ) (after : List ℕ) : Type 0 where
   pub answer : TraceAnswer

@@ -1,6 +1,6 @@
 // The public operations under C names. include/bolgverk.h says the same to a C compiler.
 // A slice passes as a pointer and a length, a number to be written as a pointer. No function has a `requires`.
-ghost use Rattle.exports.specs.Calls.{CheckCall, WriteCall, TraceCall, StepCall, BlockCall, SetCall};
+ghost use Rattle.exports.specs.Calls.{CheckCall, WriteCall, FindCall, TraceCall, StepCall, BlockCall, SetCall};
 use paper::Address;
 use paper::Block;
 use paper::SetState;
@@ -38,6 +38,21 @@ pub extern "C" fn bolgverk_write(
 {
     let answer = bolgverk::write(policy, ways, sets, nodes, edges, loops, heads, rows, out);
     telling::write(answer, length, place, second)
+}
+
+// The refusal's number, or 0; `place` gets the refusal's place, or 0; `limit` gets the limit found, or 0, where nothing is refused.
+#[no_mangle]
+pub extern "C" fn bolgverk_find(
+    file: &[u8],
+    scope: u16,
+    block: u16,
+    rows: &mut [u16],
+    limit: &mut u16,
+    place: &mut u64,
+) -> u8
+    ensures { λ r. ⌜ FindCall (now (file .entry)) scope block (now (rows .entry)) (now (limit .entry)) r (now (limit .exit)) (now (place .exit)) (now (rows .exit)) ⌝ }
+{
+    telling::find(bolgverk::find(file, scope, block, rows), limit, place)
 }
 
 // The refusal's number, or 0; `place` gets the refusal's place, or 0; `misses` is written where nothing is refused.

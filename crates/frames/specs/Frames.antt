@@ -17,15 +17,18 @@ use Rattle.paper.specs.declared.TraceAnswer.{TraceAnswer}
 use Rattle.paper.specs.declared.TraceAnswer.the-variants as TraceAnswers
 use Rattle.paper.specs.declared.WriteAnswer.{WriteAnswer}
 use Rattle.paper.specs.declared.WriteAnswer.the-variants as WriteAnswers
+use Rattle.paper.specs.declared.FindAnswer.{FindAnswer}
+use Rattle.paper.specs.declared.FindAnswer.the-variants as FindAnswers
 use Rattle.paper.specs.declared.Verdict.{Verdict}
 use Rattle.paper.specs.declared.Verdict.the-variants as Verdicts
-use Rattle.paper.specs.Answers.{refuse}
+use Rattle.paper.specs.Answers.{refuse, toldFind}
 use Rattle.paper.specs.Files.{u8At, u16At, u32At}
 use Rattle.paper.specs.Records.{sizeOf}
 use Rattle.paper.specs.Operations.{stepAnswer, blockAnswer, setAnswer}
 use Rattle.paper.specs.Traces.{Run, traceRun}
 use Rattle.paper.specs.Verdicts.{verdict, lentAfter}
 use Rattle.paper.specs.Writing.{FileContent, writeVerdict, writeAnswer, outAfter}
+use Rattle.paper.specs.Finding.{FindOutcome}
 use Rattle.frames.specs.declared.Head.{Head}
 use Rattle.frames.specs.Little.{little, littles, u16s, u32s, u64s}
 use Rattle.frames.specs.Places as Places
@@ -74,6 +77,12 @@ abbrev pub writeHead : WriteAnswer → Head
 writeHead (WriteAnswers.Written n) = found n
 writeHead (WriteAnswers.Refused r) = refusedWith r 0
 
+-- "the limit u16 (none, and refused: 0)"
+abbrev pub findHead : FindAnswer → Head
+findHead (FindAnswers.Found l) = found l
+findHead FindAnswers.None = found 0
+findHead (FindAnswers.Refused r) = refusedWith r 0
+
 abbrev pub stepOf : Outcome → List ℕ → ℕ → StepAnswer
 stepOf outcome lines bits = record { state = record { lines = lines; bits = bits }; outcome = outcome }
 
@@ -106,6 +115,10 @@ wrote c out = record { answer = writeAnswer c (writeVerdict c (length out)); aft
 -- "…; the m bytes of lent memory afterwards, of which the first are the file"
 abbrev pub writeFrame : Wrote → List ℕ
 writeFrame w = front 6 Places.lengthWidth (writeHead (w .answer)) ++ w .after
+
+-- "…; the m numbers of lent memory afterwards, u16 each"
+abbrev pub findFrame : FindAnswer → List ℕ → List ℕ
+findFrame a rows = front 7 Places.limitWidth (findHead a) ++ littles 2 rows
 
 -- What is asked for by the bytes of a request: r are those of its arguments, and lent is the lent memory as it is handed in.
 module _ (r : List ℕ) where
@@ -142,6 +155,17 @@ module _ (r : List ℕ) where
 
     unfoldable pub numbersAfter : List ℕ
     numbersAfter = lentAfter file numbers checkAsked
+
+    -- "scope u16, block u16, file bytes n u32, numbers m u32, then n bytes, then m numbers u16 each"
+    abbrev pub fileSearched : List ℕ
+    fileSearched = take (u32At r Places.findFile) lent
+
+    abbrev pub rowsLent : List ℕ
+    rowsLent = u16s (drop (u32At r Places.findFile) lent) (u32At r Places.findNumbers)
+
+    -- A finder's answer and the rows that it leaves are promised by a relation: these two are what is asked for. (They are the only two: `find-asked-once` in crates/answers.)
+    abbrev pub FindAsked : FindAnswer → List ℕ → Type 0
+    FindAsked answer after = FindOutcome fileSearched (u16At r 0) (u16At r Places.findBlock) rowsLent (toldFind answer) after
 
   -- Where each list of a writer begins in its lent memory, and where the lent bytes do: after all that stands before.
   abbrev pub edgesFrom : ℕ
@@ -200,7 +224,9 @@ argumentBytes operation =
     cond (eqb operation 1) (sizeOf Places.stepFields)
     (cond (eqb operation 2) (sizeOf Places.blockFields)
     (cond (eqb operation 3) (sizeOf Places.setFields)
-    (cond (eqb operation 4) (sizeOf Places.traceFields) (cond (eqb operation 5) (sizeOf Places.checkFields) (cond (eqb operation 6) (sizeOf Places.writeFields) 0)))))
+    (cond (eqb operation 4) (sizeOf Places.traceFields)
+    (cond (eqb operation 5) (sizeOf Places.checkFields)
+    (cond (eqb operation 6) (sizeOf Places.writeFields) (cond (eqb operation 7) (sizeOf Places.findFields) 0))))))
 
 -- "the byte 0, then one byte that says why, then the number of frames answered before it, u64"
 unfoldable pub lastFrame : ℕ → ℕ → List ℕ
@@ -210,3 +236,10 @@ lastFrame why answered = little 1 0 ++ (little 1 why ++ little 8 answered)
 pub record Answered (frame : List ℕ) (at : ℕ) (left : List ℕ) : Type 0 where
   pub fits : at ≤ length left
   pub bytes : drop at left ≡ frame
+
+-- The answer of a finder: there are an answer and rows that are asked for, and their frame is in the lent bytes.
+pub record FindAnswered (r lent : List ℕ) (at : ℕ) (left : List ℕ) : Type 0 where
+  pub answer : FindAnswer
+  pub rows : List ℕ
+  pub asked : FindAsked r lent answer rows
+  pub answered : Answered (findFrame answer rows) at left

@@ -14,7 +14,7 @@ linesWidth = 8 * bits16
 abbrev pub headSize : ℕ
 headSize = sizeOf (bits8 ∷ bits8 ∷ bits64 ∷ bits64 ∷ [])
 
--- what follows it first: "0 for a hit, 1 for a miss, 2 for a refusal, u8", "the block u16", "the set u8", "the misses u64", "the file's length u64"
+-- what follows it first: "0 for a hit, 1 for a miss, 2 for a refusal, u8", "the block u16", "the set u8", "the misses u64", "the file's length u64", "the limit u16"
 abbrev pub outcomeWidth : ℕ
 outcomeWidth = bits8
 
@@ -29,6 +29,9 @@ missesWidth = bits64
 
 abbrev pub lengthWidth : ℕ
 lengthWidth = bits64
+
+abbrev pub limitWidth : ℕ
+limitWidth = bits16
 
 -- A step's answer is the longest without lent memory. The lent memory stands after room for it.
 abbrev pub lentAt : ℕ
@@ -118,6 +121,19 @@ writeRows = offset writeFields 7
 
 abbrev pub writeLent : ℕ
 writeLent = offset writeFields 8
+
+-- "scope u16, block u16, file bytes n u32, numbers m u32"
+abbrev pub findFields : List ℕ
+findFields = bits16 ∷ bits16 ∷ bits32 ∷ bits32 ∷ []
+
+abbrev pub findBlock : ℕ
+findBlock = offset findFields 1
+
+abbrev pub findFile : ℕ
+findFile = offset findFields 2
+
+abbrev pub findNumbers : ℕ
+findNumbers = offset findFields 3
 
 -- A writer's arguments take most.
 abbrev pub argumentsRoom : ℕ

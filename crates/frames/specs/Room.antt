@@ -23,6 +23,10 @@ loops = 1024
 abbrev pub heads : ℕ
 heads = 2048
 
+-- "A find has … at most 16,384 numbers: twice as many as the rows of 1,024 nodes take."
+abbrev pub found : ℕ
+found = 16384
+
 -- "a file has at most 4,300,000 bytes": a check's lent memory takes most.
 abbrev pub bytes : ℕ
 bytes = lentAt + 4300000 + 8 * numbers

@@ -1,6 +1,7 @@
 // What the head of each operation's answer says: nothing refused and a value, or the refusal.
 use crate::Head;
 use paper::BlockAnswer;
+use paper::FindAnswer;
 use paper::Outcome;
 use paper::Refusal;
 use paper::SetAnswer;
@@ -80,5 +81,15 @@ pub fn write(answer: WriteAnswer) -> Head
     match answer {
         WriteAnswer::Written(length) => found(length as u64),
         WriteAnswer::Refused(r) => refused(r, 0),
+    }
+}
+
+pub fn find(answer: FindAnswer) -> Head
+    ensures { λ r. ⌜ r ≡ Frames.findHead answer ⌝ }
+{
+    match answer {
+        FindAnswer::Found(limit) => found(limit as u64),
+        FindAnswer::None => found(0),
+        FindAnswer::Refused(r) => refused(r, 0),
     }
 }

@@ -3,7 +3,7 @@
 // An answer's head: the operation, the refusal's number, its two places.
 pub const HEAD_SIZE: usize = 18;
 
-// What follows the head first: a step's outcome, a block, a set, the misses of a trace, a file's length.
+// What follows the head first: a step's outcome, a block, a set, the misses of a trace, a file's length, a limit.
 pub const OUTCOME_WIDTH: usize = 1;
 
 pub const BLOCK_WIDTH: usize = 2;
@@ -13,6 +13,8 @@ pub const SET_WIDTH: usize = 1;
 pub const MISSES_WIDTH: usize = 8;
 
 pub const LENGTH_WIDTH: usize = 8;
+
+pub const LIMIT_WIDTH: usize = 2;
 
 // A step's answer, with eight lines and bits, is the longest without lent memory. The lent memory stands after room for it.
 pub const LENT_AT: usize = HEAD_SIZE + OUTCOME_WIDTH + 16 + 1;
@@ -25,6 +27,8 @@ pub const SET_AT: usize = LENT_AT - HEAD_SIZE - SET_WIDTH;
 pub const TRACE_AT: usize = LENT_AT - HEAD_SIZE - MISSES_WIDTH;
 
 pub const CHECK_AT: usize = LENT_AT - HEAD_SIZE;
+
+pub const FIND_AT: usize = LENT_AT - HEAD_SIZE - LIMIT_WIDTH;
 
 // "the byte 0, then one byte that says why, then the number of frames answered before it, u64"
 pub const LAST_SIZE: usize = 10;
@@ -41,6 +45,8 @@ pub const TRACE_SIZE: usize = 11;
 pub const CHECK_SIZE: usize = 8;
 
 pub const WRITE_SIZE: usize = 27;
+
+pub const FIND_SIZE: usize = 12;
 
 pub const ARGUMENTS_ROOM: usize = WRITE_SIZE;
 
@@ -82,3 +88,9 @@ pub const WRITE_HEADS: usize = 15;
 pub const WRITE_ROWS: usize = 19;
 
 pub const WRITE_LENT: usize = 23;
+
+pub const FIND_BLOCK: usize = 2;
+
+pub const FIND_FILE: usize = 4;
+
+pub const FIND_NUMBERS: usize = 8;

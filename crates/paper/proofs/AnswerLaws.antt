@@ -16,7 +16,9 @@ use Rattle.paper.specs.declared.SetAnswer.{SetAnswer}
 use Rattle.paper.specs.declared.SetAnswer.the-variants as SetAnswers
 use Rattle.paper.specs.declared.WriteAnswer.{WriteAnswer}
 use Rattle.paper.specs.declared.WriteAnswer.the-variants as WriteAnswers
-use Rattle.paper.specs.Answers.{refuseAt, Told, toldVerdict, toldTrace, toldOutcome, toldBlock, toldSet, toldWrite}
+use Rattle.paper.specs.declared.FindAnswer.{FindAnswer}
+use Rattle.paper.specs.declared.FindAnswer.the-variants as FindAnswers
+use Rattle.paper.specs.Answers.{refuseAt, Told, toldVerdict, toldTrace, toldOutcome, toldBlock, toldSet, toldWrite, toldFind}
 
 -- The way back from what is told: a refusal, no value, a value.
 module _ {A : Type 0} (refused : Refusal → A) (plain : A) (valued : ℕ → A) where
@@ -67,6 +69,11 @@ write-back : (v : WriteAnswer) → answer WriteAnswers.Refused (WriteAnswers.Wri
 write-back (WriteAnswers.Written n) = refl
 write-back (WriteAnswers.Refused r) = refl
 
+find-back : (v : FindAnswer) → answer FindAnswers.Refused FindAnswers.None FindAnswers.Found (toldFind v) ≡ v
+find-back (FindAnswers.Found l) = refl
+find-back FindAnswers.None = refl
+find-back (FindAnswers.Refused r) = refl
+
 pub same-verdict : (v v′ : Verdict) → toldVerdict v ≡ toldVerdict v′ → v ≡ v′
 same-verdict = same _ _ _ toldVerdict verdict-back
 
@@ -84,3 +91,6 @@ same-set = same _ _ _ toldSet set-back
 
 pub same-write : (v v′ : WriteAnswer) → toldWrite v ≡ toldWrite v′ → v ≡ v′
 same-write = same _ _ _ toldWrite write-back
+
+pub same-find : (v v′ : FindAnswer) → toldFind v ≡ toldFind v′ → v ≡ v′
+same-find = same _ _ _ toldFind find-back

@@ -2,7 +2,7 @@
 use Prim.Native.Nat.{ℕ, _+_, _-_, _≤_, _<_}
 use native.Mathlib.Omega.{arith}
 use mathlib.Core.Path.{_≡_, refl, _∙_, ap, subst}
-use mathlib.Core.Logic.{_⊎_, inl, inr, _↔_}
+use mathlib.Core.Logic.{_⊎_, inl, inr, ⊎-elim, _↔_}
 use mathlib.Core.Bool.{Bool, true, false}
 use borrow.Author.Tests.{not-false}
 use Rattle.paper.specs.declared.Verdict.{Verdict}
@@ -35,6 +35,11 @@ module _ (e : Case) (t : Fact) where
         low = let m : ¬ (t .limit < 1) = λ p. n (inr (inr (inl p))) in omega arith;
         high = let m : ¬ (e .ways < t .limit) = λ p. n (inr (inr (inr p))) in omega arith;
       }
+
+  pub sound-head : SoundHead e t → badHead e t ≡ false
+  sound-head h =
+      says-false head-says .1
+      (⊎-elim (λ p. omega (arith, h .scope (p .1))) (⊎-elim (h .block) (⊎-elim (λ p. omega (arith, h .low)) (λ p. omega (arith, h .high)))))
 
   -- the scope's nodes, by node and by place
   abbrev first : ℕ

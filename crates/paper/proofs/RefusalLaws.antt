@@ -29,7 +29,8 @@ use Rattle.paper.specs.Cases.{Fact, Case, size, scopeOf}
 use Rattle.paper.specs.Facts.{nonePrevious, previousOf, badHead, badOrder, unfetched, badRowAt, afterB, afterMany, brokenBy, badStepAt, stepNumber, badManyAt}
 use Rattle.paper.specs.Files.{endAt, trailerOf, badLetters, badCache, badNumbers, badOffsets, factsAt, factAt, factEnd, factPlace, caseOf, readCase}
 use Rattle.paper.specs.Rules.{refused, ruleBy, rule}
-use Rattle.paper.specs.Verdicts.{layoutRules, shapeRules, pathRules, countRules, graphRules, headRule, orderRule, fetchRule, rowRules, stepRules, manyRules, bodyRules, turnRules, turnsFrom, factRules, verdict}
+use Rattle.paper.specs.Verdicts.{layoutRules, shapeRules, pathRules, countRules, graphRules, headRule, orderRule, fetchRule, rowRules, stepRules, manyRules, bodyRules, turnRules, turnsFrom, factRules, wholeFileRules, verdict}
+use Rattle.paper.specs.Finding.{sought, rowsLength, soughtRules, findVerdict}
 use Rattle.paper.specs.Writing.{FileContent, trailerIn, caseIn, fileOf, contentRules, inTurn, badLists, badRowsNamed, writtenTurn, writtenFacts, listRules, writeVerdict, writeAnswer}
 
 -- the refusals that have a second place: 16, 17, 18, 24 and 25
@@ -112,16 +113,26 @@ module _ (f : List ℕ) (trailer : Trailer) where
   unfolding factRules
   facts-numbered rest h = turns-numbered (trailer .facts) 0 nonePrevious (factsAt trailer) _ (one 18 0 (ltb (factPlace f trailer (trailer .facts)) (endAt f)) h)
 
-pub verdict-numbered : (f : List ℕ) (room : ℕ) → Numbered 1 toldVerdict (verdict f room)
-unfolding verdict layoutRules
-verdict-numbered f room =
+-- the rules over the whole file, then the rest
+whole-numbered : (f : List ℕ) (rest : Verdict) → Numbered 1 toldVerdict rest → Numbered 1 toldVerdict (wholeFileRules f rest)
+unfolding layoutRules
+whole-numbered f rest h =
     let trailer = trailerOf f in
-    one 19 0 (ltb room 321)
-    (one 0 0 (ltb (length f) 32)
+    one 0 0 (ltb (length f) 32)
     (one 1 0 (badLetters f)
-    (one 2 0 (badCache trailer)
-    (one 3 0 (badNumbers trailer)
-    (one 4 0 (badOffsets f trailer) (graph-numbered (readCase f) _ (facts-numbered f trailer Accepted (plain 1 toldVerdict Accepted [] refl))))))))
+    (one 2 0 (badCache trailer) (one 3 0 (badNumbers trailer) (one 4 0 (badOffsets f trailer) (graph-numbered (readCase f) rest h)))))
+
+pub verdict-numbered : (f : List ℕ) (room : ℕ) → Numbered 1 toldVerdict (verdict f room)
+unfolding verdict
+verdict-numbered f room = one 19 0 (ltb room 321) (whole-numbered f _ (facts-numbered f (trailerOf f) Accepted (plain 1 toldVerdict Accepted [] refl)))
+
+-- the finder's refusals
+pub find-numbered : (f : List ℕ) (scope block room : ℕ) → Numbered 1 toldVerdict (findVerdict f scope block room)
+unfolding findVerdict soughtRules headRule fetchRule
+find-numbered f scope block room =
+    let e = readCase f in
+    let t = sought e scope block in
+    whole-numbered f _ (one 11 0 (badHead e t) (one 13 0 (unfetched e t) (one 19 0 (ltb room (rowsLength e t)) (plain 1 toldVerdict Accepted [] refl))))
 
 -- the writer's refusals
 module _ (c : FileContent) where

@@ -10,7 +10,7 @@ use Rattle.paper.specs.declared.Verdict.{Verdict}
 use Rattle.paper.specs.declared.Verdict.the-variants.{Accepted, Refused}
 use Rattle.paper.specs.Answers.{refuse}
 use Rattle.paper.specs.Lists.{least, some}
-use Rattle.paper.specs.Rules.{ruleBy, rule, ruleAt}
+use Rattle.paper.specs.Rules.{ruleBy, rule, ruleAt, Passes}
 
 pub never : {P : Type 0} (r : Refusal) → Refused r ≡ Accepted → P
 never r e = let z : _≡_ {A = ℕ} 0 1 = cc in absurd (omega arith)
@@ -79,6 +79,14 @@ regroup (Refused r) w rest = refl
 pub hands-then : (a b : Verdict → Verdict) → Hands a → Hands b → Hands (λ rest. a (b rest))
 hands-then a b h k rest =
     h (b rest) ∙ ap (follow (a Accepted)) (k rest) ∙ regroup (a Accepted) (b Accepted) rest ∙ ap (λ v. follow v rest) (sym (h (b Accepted)))
+
+-- what an accepted chain says of itself
+pub passes-chain : (chain : Verdict → Verdict) → Hands chain → (rest : Verdict) → chain rest ≡ Accepted → Passes chain
+passes-chain chain h rest a = go (chain Accepted) (sym (h rest) ∙ a)
+  where
+    go : (v : Verdict) → follow v rest ≡ Accepted → v ≡ Accepted
+    go Accepted p = refl
+    go (Refused r) p = never r p
 
 -- the chain's own verdict is v
 module _ (chain : Verdict → Verdict) (h : Hands chain) (rest v : Verdict) (a : v ≡ chain Accepted) where

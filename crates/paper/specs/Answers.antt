@@ -16,6 +16,8 @@ use Rattle.paper.specs.declared.SetAnswer.{SetAnswer}
 use Rattle.paper.specs.declared.SetAnswer.the-variants as SetAnswers
 use Rattle.paper.specs.declared.WriteAnswer.{WriteAnswer}
 use Rattle.paper.specs.declared.WriteAnswer.the-variants as WriteAnswers
+use Rattle.paper.specs.declared.FindAnswer.{FindAnswer}
+use Rattle.paper.specs.declared.FindAnswer.the-variants as FindAnswers
 
 -- "The result gets a second place."
 abbrev pub refuseAt : ℕ → ℕ → ℕ → Refusal
@@ -67,6 +69,12 @@ abbrev pub toldWrite : WriteAnswer → Told
 toldWrite (WriteAnswers.Written n) = tells (n ∷ [])
 toldWrite (WriteAnswers.Refused r) = tellsWhy r
 
+-- the limit that is found, no value where there is none; the rows are in the lent list
+abbrev pub toldFind : FindAnswer → Told
+toldFind (FindAnswers.Found l) = tells (l ∷ [])
+toldFind FindAnswers.None = tells []
+toldFind (FindAnswers.Refused r) = tellsWhy r
+
 -- The value told, or `before` where none is: a number that is written only where nothing is refused.
 abbrev pub valueOr : ℕ → Told → ℕ
 valueOr before t = firstOr (t .values)
@@ -75,3 +83,11 @@ valueOr before t = firstOr (t .values)
     firstOr none = before
     firstOr (some []) = before
     firstOr (some (n ∷ rest)) = n
+
+-- The limit told, 0 where none is found, or `before` where the finder refuses.
+abbrev pub limitOr : ℕ → Told → ℕ
+limitOr before t = valueOr (noneOr (t .values)) t
+  where
+    noneOr : Option (List ℕ) → ℕ
+    noneOr none = before
+    noneOr (some values) = 0

@@ -21,6 +21,7 @@ pub mod OneFact
 pub mod Listings
 pub mod Demands
 pub mod Writing
+pub mod Finding
 pub mod Checked
 pub mod NextBits
 pub mod Patterns

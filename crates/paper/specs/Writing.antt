@@ -47,6 +47,10 @@ perHead = suc (length Records.headFields)
 abbrev pub perRow : ℕ
 perRow = length Records.rowFields
 
+-- row r of a list of rows
+abbrev pub rowFrom : List ℕ → ℕ → Row
+rowFrom rows r = record { number = getD rows (perRow * r) 0; slot = λ k. getD rows (perRow * r + 1 + k) 0 }
+
 -- What the types of the lent lists say: blocks, node numbers, loop numbers, limits and slots are 16 bits wide. (Of the cache and the loops rules 3 and 7 say more.)
 abbrev pub Below : ℕ → List ℕ → Type 0
 Below n l = (x : ℕ) → List·Memᴰ x l → x < n
@@ -88,7 +92,7 @@ module _ (c : FileContent) where
 
   -- row r of all
   abbrev pub rowIn : ℕ → Row
-  rowIn r = record { number = getD (c .rows) (perRow * r) 0; slot = λ k. getD (c .rows) (perRow * r + 1 + k) 0 }
+  rowIn r = rowFrom (c .rows) r
 
   abbrev pub factIn : ℕ → Fact
   factIn i =

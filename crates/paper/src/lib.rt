@@ -112,6 +112,13 @@ pub enum WriteAnswer {
     Refused(Refusal),
 }
 
+// "the smallest age limit up to k for which evidence exists", or none.
+pub enum FindAnswer {
+    Found(u16),
+    None,
+    Refused(Refusal),
+}
+
 // "The loops are handed on as a list of records: first node, last node, bound."
 pub struct Loop {
     pub first: u16,

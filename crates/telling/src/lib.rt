@@ -1,13 +1,14 @@
 // What a C caller is told of an answer: the number that is returned, and the numbers that are written through pointers.
 // A value is written only where nothing is refused; places are written always, 0 where nothing is refused.
 use paper::BlockAnswer;
+use paper::FindAnswer;
 use paper::Outcome;
 use paper::SetAnswer;
 use paper::TraceAnswer;
 use paper::Verdict;
 use paper::WriteAnswer;
 ghost use mathlib.Core.Path.{_≡_};
-ghost use Rattle.paper.specs.Answers.{toldVerdict, toldTrace, toldOutcome, toldBlock, toldSet, toldWrite, valueOr};
+ghost use Rattle.paper.specs.Answers.{toldVerdict, toldTrace, toldOutcome, toldBlock, toldSet, toldWrite, toldFind, valueOr, limitOr};
 
 pub fn check(answer: Verdict, place: &mut u64, second: &mut u64) -> u8
     ensures { λ r. ⌜ r ≡ toldVerdict answer .number ⌝ }
@@ -45,6 +46,30 @@ pub fn write(answer: WriteAnswer, length: &mut u64, place: &mut u64, second: &mu
             *place = unfit.place as u64;
             *second = unfit.second as u64;
             unfit.number
+        }
+    }
+}
+
+// The limit is 0 where none has evidence.
+pub fn find(answer: FindAnswer, limit: &mut u16, place: &mut u64) -> u8
+    ensures { λ r. ⌜ r ≡ toldFind answer .number ⌝ }
+    ensures { λ _. ⌜ now (limit .exit) ≡ limitOr (now (limit .entry)) (toldFind answer) ⌝ }
+    ensures { λ _. ⌜ now (place .exit) ≡ toldFind answer .place ⌝ }
+{
+    match answer {
+        FindAnswer::Found(found) => {
+            *limit = found;
+            *place = 0;
+            0
+        }
+        FindAnswer::None => {
+            *limit = 0;
+            *place = 0;
+            0
+        }
+        FindAnswer::Refused(unsound) => {
+            *place = unsound.place as u64;
+            unsound.number
         }
     }
 }

@@ -21,7 +21,7 @@ table-mem g zero i h = absurd (omega arith)
 table-mem g (suc n) zero h = List·Memᴰ·head refl
 table-mem g (suc n) (suc i) h = List·Memᴰ·tail (table-mem (λ k. g (suc k)) n i (omega arith))
 
-mem-table : (g : ℕ → ℕ) (n x : ℕ) → List·Memᴰ x (table g n) → (i : ℕ) × (i < n) × (g i ≡ x)
+pub mem-table : (g : ℕ → ℕ) (n x : ℕ) → List·Memᴰ x (table g n) → (i : ℕ) × (i < n) × (g i ≡ x)
 unfolding table
 mem-table g zero x m = absurd (List·Memᴰ·not-nil m)
 mem-table g (suc n) x (List·Memᴰ·head p) = (0, omega arith, sym p)
@@ -31,7 +31,7 @@ rises : (g : ℕ → ℕ) (n : ℕ) → ((k : ℕ) → suc k < n → g k < g (su
 rises g n h zero l = h 0 l
 rises g n h (suc i) l = omega (arith, rises g n h i (omega arith), h (suc i) l)
 
-table-rising : (g : ℕ → ℕ) (n : ℕ) → ((k : ℕ) → suc k < n → g k < g (suc k)) → Rising (table g n)
+pub table-rising : (g : ℕ → ℕ) (n : ℕ) → ((k : ℕ) → suc k < n → g k < g (suc k)) → Rising (table g n)
 unfolding table
 table-rising g zero h = tt
 table-rising g (suc n) h = (

@@ -11,10 +11,10 @@ module _ (e : Case) (t : Fact) where
   abbrev pub Clear : ℕ → ℕ → Type 0
   Clear = Way (EdgeInside e t) (λ x. e .block x ≢ t .block)
 
-  abbrev Free : List ℕ → Type 0
+  abbrev pub Free : List ℕ → Type 0
   Free m = (x : ℕ) → List·Memᴰ x m → e .block x ≢ t .block
 
-  clear : {u v : ℕ} (m : List ℕ) → WalkInside e t u m v → Free m → Clear u v
+  pub clear : {u v : ℕ} (m : List ℕ) → WalkInside e t u m v → Free m → Clear u v
   clear [] w f = last w
   clear (x ∷ m) w f = next (w .0) (f x (List·Memᴰ·head refl)) (clear m (w .1) (λ y i. f y (List·Memᴰ·tail i)))
 
@@ -24,11 +24,11 @@ module _ (e : Case) (t : Fact) where
       let r = split i (w .1) (λ z j. f z (List·Memᴰ·tail j)) in (next (w .0) (f y (List·Memᴰ·head refl)) (r .0), r .1)
 
   -- a walk with its nodes between, of which P holds
-  record Past (u v : ℕ) (P : List ℕ → Type 0) : Type 0 where
-    between : List ℕ
-    walk : WalkInside e t u between v
-    free : Free between
-    known : P between
+  pub record Past (u v : ℕ) (P : List ℕ → Type 0) : Type 0 where
+    pub between : List ℕ
+    pub walk : WalkInside e t u between v
+    pub free : Free between
+    pub known : P between
 
   more : {P R : List ℕ → Type 0} {u x v : ℕ} → EdgeInside e t u x → e .block x ≢ t .block → ((m : List ℕ) → P m → R (x ∷ m)) → Past x v P → Past u v R
   more {x = x} s p h w =
@@ -39,7 +39,7 @@ module _ (e : Case) (t : Fact) where
         known = h _ (w .known);
       }
 
-  walk : {u v : ℕ} → Clear u v → Past u v (λ m. Unit {0})
+  pub walk : {u v : ℕ} → Clear u v → Past u v (λ m. Unit {0})
   walk (last s) = record { between = []; walk = s; free = λ y i. absurd (List·Memᴰ·not-nil i); known = tt }
   walk (next s p w) = more s p (λ m k. tt) (walk w)
 

@@ -49,8 +49,11 @@ module _ (e : Case) (t : Fact) where
   pub reached? : (v : ℕ) → Dec (Reached v)
   reached? v = some? (λ s. Dec·and (ℕ-discrete (e .block s) (t .block)) (clear? s v)) top
 
+  pub reached-from : {s v : ℕ} → e .block s ≡ t .block → Clear e t s v → Reached v
+  reached-from {s} p w = (s, below w, (p, w))
+
   pub reached-first : {u v : ℕ} → EdgeInside e t u v → e .block u ≡ t .block → Reached v
-  reached-first {u} s p = (u, within u (s .1), (p, last s))
+  reached-first s p = reached-from p (last s)
 
   -- a gathered block by the node that fetches it
   abbrev Parts : ℕ → ℕ → Type 0

@@ -19,7 +19,7 @@ use Rattle.theory.proofs.Decided.{Reached, reached?, reached-first, rea
 abbrev setRow : List ℕ → Row
 setRow l = record { number = length l; slot = λ k. getD l k none }
 
-abbrev plainRow : ℕ → Row
+abbrev pub plainRow : ℕ → Row
 plainRow n = record { number = n; slot = λ k. none }
 
 module _ (e : Case) (t : Fact) where
@@ -34,7 +34,7 @@ module _ (e : Case) (t : Fact) where
         free = λ k i j. List·getD-eq-default l none (omega arith);
       }
 
-  plain-sound : (n : ℕ) → 8 ≤ n → n ≤ 9 → SoundRow e t (plainRow n)
+  pub plain-sound : (n : ℕ) → 8 ≤ n → n ≤ 9 → SoundRow e t (plainRow n)
   plain-sound n l h =
       let z = held-other (plainRow n) l in
       record {

@@ -49,3 +49,6 @@ pub mod OneFile
 pub mod OneAccepted
 pub mod OneBytes
 pub mod Exact
+pub mod Justified
+pub mod LeastLimit
+pub mod FoundOnce

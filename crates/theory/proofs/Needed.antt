@@ -1,4 +1,4 @@
--- Sound evidence has what walks gather.
+-- Rows that keep the edge rule, as sound evidence does, have what walks gather.
 use Prim.Native.Nat.{ℕ, _≤_, _<_}
 use native.Mathlib.Omega.{arith}
 use mathlib.Core.Path.{_≡_, refl}
@@ -20,7 +20,7 @@ use Rattle.theory.proofs.Sorted.{no-longer}
 use Rattle.theory.proofs.Blocks.{blocks, blocks-rising, holds-mem}
 
 -- the row has the block: "many" has all
-abbrev Has : Row → ℕ → Type 0
+abbrev pub Has : Row → ℕ → Type 0
 Has r c = (r .number ≢ 9) × (r .number ≢ 8 → Holds r c)
 
 module _ (e : Case) (t : Fact) where
@@ -41,16 +41,11 @@ module _ (e : Case) (t : Fact) where
     gains : Other e t x → Has s x
     gains w = (lives, λ m. rule .other o n m .adds w)
 
-  module _ (a : SoundEvidence e t) where
-    abbrev row : ℕ → Row
-    row v = rowOf e t v
+  -- the rows keep the edge rule along each edge inside the scope
+  abbrev pub Closed : (ℕ → Row) → Type 0
+  Closed row = (u v : ℕ) → EdgeInside e t u v → EdgeRule e t (e .block u) (row u) (row v)
 
-    within : (v : ℕ) → inside (scopeOf e t) v ≡ true → In (scopeOf e t) v
-    within v h = says-true (inside-says (scopeOf e t) v) h
-
-    rule : (u v : ℕ) → EdgeInside e t u v → EdgeRule e t (e .block u) (row u) (row v)
-    rule u v s = a .edges u v (s .0) (within u (s .1)) (within v (s .2))
-
+  module _ (row : ℕ → Row) (rule : Closed row) where
     along : {u v : ℕ} (c : ℕ) → Clear e t u v → e .block u ≢ t .block → Has (row u) c → Has (row v) c
     along c (last s) n h = keeps _ _ _ (rule _ _ s) n (h .0) c h
     along c (next s p w) n h = along c w p (keeps _ _ _ (rule _ _ s) n (h .0) c h)
@@ -59,7 +54,7 @@ module _ (e : Case) (t : Fact) where
     lasts (last s) n h = lives _ _ _ (rule _ _ s) n h
     lasts (next s p w) n h = lasts w p (lives _ _ _ (rule _ _ s) n h)
 
-    begins : {u v : ℕ} → Clear e t u v → e .block u ≡ t .block → row v .number ≢ 9
+    pub begins : {u v : ℕ} → Clear e t u v → e .block u ≡ t .block → row v .number ≢ 9
     begins (last s) b = rule _ _ s .after-b b
     begins (next s p w) b = lasts w p (rule _ _ s .after-b b)
 
@@ -67,24 +62,29 @@ module _ (e : Case) (t : Fact) where
     passes (last s) n o = gains _ _ _ (rule _ _ s) (o .0) n o
     passes (next s p w) n o = along _ w p (gains _ _ _ (rule _ _ s) (o .0) n o)
 
-    has : {v c : ℕ} → Gathered e t v c → Has (row v) c
+    pub has : {v c : ℕ} → Gathered e t v c → Has (row v) c
     has {v} g =
         let w = split e t (g .passed) (g .walk) (g .free) in
         rw (g .fetches) at (passes {x = g .node} {v = v} (w .1) (begins (w .0) (g .starts)) (rw (g .fetches) (g .other)))
 
-    few : 1 ≤ t .limit → (s : Row) → SoundRow e t s → s .number ≢ 8 → (r : List ℕ) → Rising r → ((c : ℕ) → List·Memᴰ c r → Has s c) → length r < t .limit
-    few l s z n [] o h = omega arith
-    few l s z n (x ∷ r) o h =
-        let nine = h x (List·Memᴰ·head refl) .0 in
-        let set : s .number < 8 = omega (arith, z .number) in
-        omega (
-          arith,
-          z .few set,
-          held-set s set,
-          length-table (s .slot) (held s),
-          no-longer (blocks s) (x ∷ r) (blocks-rising s (z .rising)) o (λ c m. holds-mem s c (h c m .1 n)),
-        )
+  -- a row that is not "many" has fewer than the limit
+  pub few : 1 ≤ t .limit → (s : Row) → SoundRow e t s → s .number ≢ 8 → (r : List ℕ) → Rising r → ((c : ℕ) → List·Memᴰ c r → Has s c) → length r < t .limit
+  few l s z n [] o h = omega arith
+  few l s z n (x ∷ r) o h =
+      let nine = h x (List·Memᴰ·head refl) .0 in
+      let set : s .number < 8 = omega (arith, z .number) in
+      omega (
+        arith,
+        z .few set,
+        held-set s set,
+        length-table (s .slot) (held s),
+        no-longer (blocks s) (x ∷ r) (blocks-rising s (z .rising)) o (λ c m. holds-mem s c (h c m .1 n)),
+      )
+
+  within : (v : ℕ) → inside (scopeOf e t) v ≡ true → In (scopeOf e t) v
+  within v h = says-true (inside-says (scopeOf e t) v) h
 
   pub sound-few : 1 ≤ t .limit → SoundEvidence e t → FewGathered e t
   sound-few l a v i b r o g =
-      few a l (rowOf e t v) (a .rows v (within a v i)) (a .many v (within a v i) b) r o (λ c m. has a (g c m))
+      few l (rowOf e t v) (a .rows v (within v i)) (a .many v (within v i) b) r o
+      (λ c m. has (rowOf e t) (λ x y s. a .edges x y (s .0) (within x (s .1)) (within y (s .2))) (g c m))

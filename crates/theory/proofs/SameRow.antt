@@ -3,11 +3,9 @@ use Prim.Native.Nat.{ℕ, suc, _<_}
 use native.Mathlib.Omega.{arith}
 use mathlib.Core.Path.{_≡_, sym, _∙_, ap}
 use mathlib.Core.Bool.{cond}
-use mathlib.Core.List.{List}
 use lib.Dec.{ltb}
 use Rattle.paper.specs.Cases.{Row, Fact, Case}
 use Rattle.paper.specs.Facts.{held}
-use Rattle.paper.specs.Demands.{withRows}
 use Rattle.paper.proofs.RowLaws.{held-low}
 use Rattle.paper.proofs.Meaning.{Holds, SoundRow, Carried, EdgeRule}
 
@@ -15,15 +13,25 @@ pub record Same (r s : Row) : Type 0 where
   pub number : s .number ≡ r .number
   pub slot : (k : ℕ) → k < 7 → s .slot k ≡ r .slot k
 
-same-held : (r s : Row) → Same r s → held s ≡ held r
+pub same-back : (r s : Row) → Same r s → Same s r
+same-back r s w = record { number = sym (w .number); slot = λ k h. sym (w .slot k h) }
+
+pub same-trans : (r s m : Row) → Same r s → Same s m → Same r m
+same-trans r s m a b = record { number = b .number ∙ a .number; slot = λ k h. b .slot k h ∙ a .slot k h }
+
+pub same-held : (r s : Row) → Same r s → held s ≡ held r
 unfolding held
 same-held r s w = ap (λ (n : ℕ). cond (ltb n 8) n 0) (w .number)
 
-same-holds : (r s : Row) → Same r s → (x : ℕ) → Holds r x → Holds s x
+pub same-holds : (r s : Row) → Same r s → (x : ℕ) → Holds r x → Holds s x
 same-holds r s w x h = (h .0, omega (arith, same-held r s w, h .1), w .slot (h .0) (omega (arith, held-low r, h .1)) ∙ h .2)
 
-module _ (e : Case) (t : Fact) (bytes : List ℕ) where
-  pub same-sound : (r s : Row) → Same r s → SoundRow e t r → SoundRow e (withRows e t bytes) s
+module _ (e : Case) (t : Fact) (rows : ℕ → Row) where
+  -- the fact with other rows
+  abbrev pub rewritten : Fact
+  rewritten = record { scope = t .scope; block = t .block; limit = t .limit; row = rows }
+
+  pub same-sound : (r s : Row) → Same r s → SoundRow e t r → SoundRow e rewritten s
   same-sound r s w z =
       let h = same-held r s w in
       let l = held-low r in
@@ -35,14 +43,14 @@ module _ (e : Case) (t : Fact) (bytes : List ℕ) where
         free = λ k i j. w .slot k j ∙ z .free k (omega arith) j;
       }
 
-  pub same-rule : (x : ℕ) (r r′ s s′ : Row) → Same r r′ → Same s s′ → EdgeRule e t x r s → EdgeRule e (withRows e t bytes) x r′ s′
+  pub same-rule : (x : ℕ) (r r′ s s′ : Row) → Same r r′ → Same s s′ → EdgeRule e t x r s → EdgeRule e rewritten x r′ s′
   same-rule x r r′ s s′ a b c =
       record {
         after-b = λ p q. c .after-b p (sym (b .number) ∙ q);
         other = λ o p q. carried (c .other o (λ h. p (a .number ∙ h)) (λ h. q (b .number ∙ h)));
       }
     where
-      carried : Carried e t x r s → Carried e (withRows e t bytes) x r′ s′
+      carried : Carried e t x r s → Carried e rewritten x r′ s′
       carried k =
           record {
             set-before = λ h. k .set-before (sym (a .number) ∙ h);

@@ -2,7 +2,7 @@
 use Prim.Native.Nat.{ℕ, zero, suc, _+_, _≤_, _<_}
 use native.Mathlib.Omega.{arith}
 use native.Mathlib.Decide.{ℕ-discrete}
-use mathlib.Core.Path.{refl}
+use mathlib.Core.Path.{_≡_, refl, sym, ap₂}
 use mathlib.Core.Logic.{_≢_, ⊎-elim}
 use mathlib.Core.List.{List, [], _∷_, List·Memᴰ, List·Memᴰ·head, List·Memᴰ·tail, List·Memᴰ·cases-cons, List·Memᴰ·not-nil}
 use lib.ListN.{length}
@@ -22,6 +22,20 @@ no-longer (y ∷ t) (x ∷ s) a b h =
     (λ e. omega (arith, no-longer t s (a .1) (b .1) (λ c m. later (omega (arith, b .0 c m)) (h c (List·Memᴰ·tail m)))))
     (λ i. omega (arith, no-longer t (x ∷ s) (a .1) b (λ c m. later (⊎-elim (λ e. omega (arith, a .0 x i)) (λ j. omega (arith, a .0 x i, b .0 c j)) (List·Memᴰ·cases-cons m)) (h c m))))
     (List·Memᴰ·cases-cons (h x (List·Memᴰ·head refl)))
+
+-- rising lists with the same elements are the same
+pub rising-same : (t s : List ℕ) → Rising t → Rising s → ((c : ℕ) → List·Memᴰ c s → List·Memᴰ c t) → ((c : ℕ) → List·Memᴰ c t → List·Memᴰ c s) → t ≡ s
+rising-same [] [] a b h g = refl
+rising-same [] (x ∷ s) a b h g = absurd (List·Memᴰ·not-nil (h x (List·Memᴰ·head refl)))
+rising-same (y ∷ t) [] a b h g = absurd (List·Memᴰ·not-nil (g y (List·Memᴰ·head refl)))
+rising-same (y ∷ t) (x ∷ s) a b h g =
+    ap₂ _∷_ first
+    (rising-same t s (a .1) (b .1) (λ c m. later (omega (arith, first, b .0 c m)) (h c (List·Memᴰ·tail m))) (λ c m. later (omega (arith, first, a .0 c m)) (g c (List·Memᴰ·tail m))))
+  where
+    first : y ≡ x
+    first =
+        ⊎-elim (λ e. sym e) (λ i. ⊎-elim (λ e. e) (λ j. absurd (omega (arith, a .0 x i, b .0 y j))) (List·Memᴰ·cases-cons (g y (List·Memᴰ·head refl))))
+        (List·Memᴰ·cases-cons (h x (List·Memᴰ·head refl)))
 
 -- the numbers from i on, below i + k, of which P holds
 pub record Those (P : ℕ → Type 0) (i k : ℕ) : Type 0 where

@@ -4,7 +4,8 @@ use crate::machine::{block_or_none, NONE};
 use std::collections::BTreeSet;
 
 /// "16 bytes a row: the number and seven slots".
-pub type RowRecord = [u16; 8];
+pub const ROW_NUMBERS: usize = 8;
+pub type RowRecord = [u16; ROW_NUMBERS];
 
 #[derive(Clone, Debug, PartialEq, Eq)]
 pub enum Row {

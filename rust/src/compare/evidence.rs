@@ -1,9 +1,9 @@
 //! Evidence exists exactly when it should: on small graphs, for each block, scope and limit.
 
 use super::again::Again;
-use super::gathering::{gather, Gathered};
+use super::gathering::gather;
 use super::{agree, Settings};
-use crate::case::{Draft, FactRecord, Graph, Lists, Row, Scope, NUMBERS};
+use crate::case::{Draft, FactRecord, Gathered, Graph, Lists, Row, RowRecord, Scope, NUMBERS};
 use crate::generate::cases::{sound, Plan};
 use crate::machine::Geometry;
 use crate::pipe::{Pipe, Request};
@@ -16,7 +16,7 @@ use std::collections::{BTreeMap, BTreeSet};
 const TOGETHER: usize = 40;
 
 /// "A fact names a scope, a block b and an age limit l."
-type Named = (Scope, u16, usize);
+pub type Named = (Scope, u16, usize);
 
 /// Why a file is tried, and so what `check` must say.
 #[derive(Clone, Copy, Debug, PartialEq, Eq, PartialOrd, Ord)]
@@ -114,23 +114,27 @@ fn trials(random: &mut Random) -> Vec<Tried<Draft>> {
         for limit in 1..=geometry.shape.ways {
             let fact = (scope, block, limit);
             let rows = rows_to_try(random, &graph, fact, &gathered).into_iter();
-            trials.extend(rows.map(|tried| tried.with(|rows| with_fact(&draft, fact, &rows))));
+            trials.extend(rows.map(|tried| tried.with(|rows| with_fact(&draft, fact, records(&rows)))));
         }
     }
     trials
 }
 
-fn with_fact(draft: &Draft, (scope, block, limit): Named, rows: &[Row]) -> Draft {
-    let rows = rows.iter().map(Row::record).collect();
+pub fn records(rows: &[Row]) -> Vec<RowRecord> {
+    rows.iter().map(Row::record).collect()
+}
+
+/// The graph with this one fact.
+pub fn with_fact(draft: &Draft, (scope, block, limit): Named, rows: Vec<RowRecord>) -> Draft {
     Draft { facts: vec![FactRecord { scope: scope.number(), block, limit: limit as u16, rows }], ..draft.clone() }
 }
 
 /// The rows to try for one fact.
 fn rows_to_try(random: &mut Random, graph: &Graph, fact: Named, gathered: &Gathered) -> Vec<Tried<Vec<Row>>> {
-    let (scope, block, limit) = fact;
+    let (scope, _, limit) = fact;
     let first = *graph.scope_nodes(scope).start();
     let exact = gathered.rows(limit);
-    let Some(node) = graph.fetchers(scope, block).find(|node| !gathered.small_enough(limit, node - first)) else {
+    let Some(node) = gathered.too_many(graph, limit) else {
         let smaller = (0..exact.len()).flat_map(|place| smaller_rows(gathered, limit, place));
         let shrunk = smaller.map(|(place, row)| {
             let mut rows = exact.clone();

@@ -26,6 +26,7 @@ fn small_frames() -> Vec<Request> {
         Request::Trace { policy: 1, ways: 2, sets: 1, blocks: vec![1, 2, 3], marks: vec![7; 4] },
         Request::Check { file: vec![81, 77, 66, 84], numbers: vec![5] },
         Request::Write { content: content([1, 2, 3, 4, 8]), out: vec![7; 50] },
+        Request::Find { file: vec![81, 77, 66, 84, 3], scope: 1, block: 700, rows: vec![5; 3] },
     ]
 }
 
@@ -54,7 +55,7 @@ pub fn run(pipe: &Pipe, settings: &Settings) -> Result<(), String> {
             converse(pipe, &before(&mut random), &whole[..cut], &[CUT_SHORT])?;
         }
     }
-    for operation in [0, 7, 8, 127, 128, 255] {
+    for operation in [0, 8, 9, 127, 128, 255] {
         // What follows would be a good frame, but "after it nothing more is read".
         let mut bytes = vec![operation];
         bytes.extend(small_frames()[1].encode());
@@ -89,6 +90,7 @@ fn too_large() -> Vec<(Vec<u8>, &'static [u8])> {
     };
     let check = |file, numbers| Request::Check { file: vec![0; file], numbers: vec![0; numbers] };
     let write = |lists, out| Request::Write { content: content(lists), out: vec![0; out] };
+    let find = |file, rows| Request::Find { file: vec![0; file], scope: 0, block: 0, rows: vec![0; rows] };
     let whole = [
         trace(room::ACCESSES + 1, 0),
         trace(0, room::MARKS + 1),
@@ -100,9 +102,11 @@ fn too_large() -> Vec<(Vec<u8>, &'static [u8])> {
         write([0, 0, 0, room::HEADS + 1, 0], 0),
         write([0, 0, 0, 0, room::ROWS + 1], 0),
         write([0, 0, 0, 0, 0], room::OUT + 1),
+        find(room::FILE + 1, 0),
+        find(0, room::FOUND + 1),
     ];
     let mut frames: Vec<(Vec<u8>, &[u8])> = whole.iter().map(|frame| (frame.encode(), &[TOO_LARGE][..])).collect();
-    for (head, lengths) in [(&[4, 0, 1, 1][..], 8), (&[5], 8), (&[6, 0, 1, 1], 24)] {
+    for (head, lengths) in [(&[4, 0, 1, 1][..], 8), (&[5], 8), (&[6, 0, 1, 1], 24), (&[7, 0, 0, 0, 0], 8)] {
         frames.push(([head, &vec![0xff; lengths]].concat(), &[CUT_SHORT, TOO_LARGE]));
     }
     frames
@@ -120,6 +124,8 @@ fn largest_frames(pipe: &Pipe) -> Result<(), String> {
             out: vec![7; room::OUT],
         },
         Request::Write { content: content([0; 5]), out: Vec::new() },
+        Request::Find { file: vec![7; room::FILE], scope: 0, block: 7, rows: vec![7; room::FOUND] },
+        Request::Find { file: Vec::new(), scope: 0, block: 0, rows: Vec::new() },
     ];
     super::agree(pipe, &largest)?;
     println!("the largest and the smallest frames are answered");

@@ -4,15 +4,9 @@
 //! A walk matters only by the node that it has come to and the blocks that it has met since b, so it is enough to go
 //! once through every such pair.
 
-use crate::case::{Graph, Row, Scope};
+use crate::case::{Gathered, Graph, Scope};
 use crate::machine::Geometry;
 use std::collections::BTreeSet;
-
-/// For each node of the scope, the blocks that some walk from b has met when it comes to the node; None where no walk
-/// from b comes to it.
-pub struct Gathered {
-    pub at: Vec<Option<BTreeSet<u16>>>,
-}
 
 pub fn gather(geometry: Geometry, graph: &Graph, scope: Scope, block: u16) -> Gathered {
     let first = *graph.scope_nodes(scope).start();
@@ -35,22 +29,5 @@ pub fn gather(geometry: Geometry, graph: &Graph, scope: Scope, block: u16) -> Ga
             }
         }
     }
-    Gathered { at }
-}
-
-impl Gathered {
-    /// The rows that say just this: 9 where no walk from b arrives, 8 where l or more have gathered, else the blocks.
-    pub fn rows(&self, limit: usize) -> Vec<Row> {
-        let row = |met: &Option<BTreeSet<u16>>| match met {
-            None => Row::NotSince,
-            Some(blocks) if blocks.len() >= limit => Row::Many,
-            Some(blocks) => Row::Blocks(blocks.clone()),
-        };
-        self.at.iter().map(row).collect()
-    }
-
-    /// Whether at this place of the scope fewer than l blocks can have gathered.
-    pub fn small_enough(&self, limit: usize, place: usize) -> bool {
-        self.at[place].as_ref().is_none_or(|blocks| blocks.len() < limit)
-    }
+    Gathered { scope, block, at }
 }

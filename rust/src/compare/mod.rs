@@ -6,6 +6,7 @@ pub mod bounds;
 pub mod caches;
 pub mod evidence;
 pub mod files;
+pub mod finds;
 pub mod frames;
 pub mod gathering;
 mod kinds;
@@ -37,6 +38,8 @@ pub struct Settings {
     pub walked: usize,
     /// Contents that are written.
     pub written: usize,
+    /// Small graphs that facts are found in.
+    pub searched: usize,
     /// A program that writes the content of its input again by the library: for files that `pipe` has no room for.
     pub library: Option<Pipe>,
 }
@@ -71,6 +74,7 @@ impl<'a> Comparison<'a> {
             Request::Trace { blocks, marks, .. } => 2 * blocks.len() + marks.len(),
             Request::Check { file, numbers } => file.len() + 8 * numbers.len(),
             Request::Write { content, out } => 2 * content.rows.len() + out.len(),
+            Request::Find { file, rows, .. } => file.len() + 2 * rows.len(),
             _ => 32,
         };
         self.waiting.push(request);

@@ -59,6 +59,16 @@ impl Plan {
         Plan { nodes: random.within(100..=1_024), depth: 64, bound: 1, rows: 3_000, ..Plan::any(random) }
     }
 
+    /// Small files where large limits are found as well: some have eight ways, one set and hardly a block twice.
+    pub fn searched(random: &mut Random) -> Plan {
+        let plan = Plan { nodes: random.within(1..=12), depth: random.within(0..=6), rows: 30, ..Plan::small(random) };
+        if random.chance(60) {
+            return plan;
+        }
+        let policy = random.below(3) as u8;
+        Plan { blocks: 40, favourite: 0, skips: random.pick(&[0, 5]), machine: Some((policy, 8, 1)), ..plan }
+    }
+
     /// Small files that a walk can go through many times.
     pub fn small(random: &mut Random) -> Plan {
         let (policy, ways) = random.pick(&Shape::all_numbers());

@@ -32,6 +32,11 @@ pub enum Body {
         length: u64,
         out: Vec<u8>,
     },
+    /// "the limit (none, and refused: 0)"
+    Find {
+        limit: u16,
+        rows: Vec<u16>,
+    },
 }
 
 /// "A frame that cannot be answered ends the conversation. Its answer is the byte 0, then one byte that says why, then
@@ -70,6 +75,7 @@ impl Body {
             Request::Trace { marks, .. } => Body::Trace { misses: take(rest)?, marks: take_list(rest, marks.len())? },
             Request::Check { numbers, .. } => Body::Check { numbers: take_list(rest, numbers.len())? },
             Request::Write { out, .. } => Body::Write { length: take(rest)?, out: take_list(rest, out.len())? },
+            Request::Find { rows, .. } => Body::Find { limit: take(rest)?, rows: take_list(rest, rows.len())? },
         })
     }
 }

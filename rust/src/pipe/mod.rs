@@ -21,4 +21,6 @@ pub mod room {
     pub const HEADS: usize = 2_048;
     pub const ROWS: usize = 1_048_576;
     pub const OUT: usize = 2_150_000;
+    /// Numbers for the rows that are found.
+    pub const FOUND: usize = 16_384;
 }

@@ -12,6 +12,7 @@ pub enum Request {
     Trace { policy: u8, ways: u8, sets: u8, blocks: Vec<u16>, marks: Vec<u8> },
     Check { file: Vec<u8>, numbers: Vec<u64> },
     Write { content: Content, out: Vec<u8> },
+    Find { file: Vec<u8>, scope: u16, block: u16, rows: Vec<u16> },
 }
 
 impl Request {
@@ -23,6 +24,7 @@ impl Request {
             Request::Trace { .. } => 4,
             Request::Check { .. } => 5,
             Request::Write { .. } => 6,
+            Request::Find { .. } => 7,
         }
     }
 
@@ -62,6 +64,12 @@ impl Request {
                 put_list(heads, &mut out);
                 put_list(rows, &mut out);
                 out.extend_from_slice(lent);
+            }
+            Request::Find { file, scope, block, rows } => {
+                put_list(&[*scope, *block], &mut out);
+                put_lengths([file.len(), rows.len()], &mut out);
+                out.extend_from_slice(file);
+                put_list(rows, &mut out);
             }
         }
         out

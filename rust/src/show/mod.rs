@@ -43,11 +43,14 @@ pub fn file(bytes: &[u8]) -> String {
     format!("{lists}  the file's {} bytes:\n{}", bytes.len(), hex(bytes))
 }
 
-/// A request in words, and its frame; of a check the file alone, since its list is noise.
+/// A request in words, and its frame; of a check and a find the file alone, since their lists are noise.
 pub fn request(request: &Request) -> String {
     match request {
         Request::Check { file: bytes, numbers } => format!("check, {} numbers lent\n{}", numbers.len(), file(bytes)),
         Request::Write { content, out } => format!("write, {} bytes lent\n{}", out.len(), lists(content)),
+        Request::Find { file: bytes, scope, block, rows } => {
+            format!("find, scope {scope}, block {block}, {} numbers lent\n{}", rows.len(), file(bytes))
+        }
         other => format!("{}\n  the frame:\n{}", arguments(other), hex(&other.encode())),
     }
 }
@@ -100,6 +103,9 @@ fn memory(own: &Body, other: &Body) -> String {
         (Body::Check { numbers }, Body::Check { numbers: others }) => first_difference(numbers, others),
         (Body::Write { length, out }, Body::Write { length: other, out: others }) => {
             format!("length: second simulator {length}, pipe {other}; {}", first_difference(out, others))
+        }
+        (Body::Find { limit, rows }, Body::Find { limit: other, rows: others }) => {
+            format!("limit: second simulator {limit}, pipe {other}; {}", first_difference(rows, others))
         }
         _ => format!("second simulator {own:?}\n  pipe             {other:?}"),
     }

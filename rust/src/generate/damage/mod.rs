@@ -16,6 +16,9 @@ pub use content::{spoil, stir, WRITTEN};
 /// are of one place.
 pub const RULES: [u8; 23] = [1, 2, 3, 4, 5, 6, 7, 8, 9, 26, 10, 11, 12, 13, 14, 15, 16, 17, 24, 25, 18, 19, 20];
 
+/// Every rule that the finder can find broken, in its order.
+pub const FOUND: [u8; 14] = [1, 2, 3, 4, 5, 6, 7, 8, 9, 26, 10, 12, 14, 20];
+
 /// Where among several the fault shall lie.
 #[derive(Clone, Copy, Debug, PartialEq)]
 pub enum Spot {

@@ -1,0 +1,9 @@
+pub mod Placing
+pub mod Ranks
+pub mod Justly
+pub mod Settling
+pub mod Tables
+pub mod Searching
+pub mod Limits
+pub mod Found
+pub mod Outcomes
