@@ -119,11 +119,12 @@ pub enum FindAnswer {
     Refused(Refusal),
 }
 
-// "The loops are handed on as a list of records: first node, last node, bound."
+// "The loops are handed on as a list of records: first node, last node, bound"; and "a further 32-bit number W", how often a whole walk visits the header at most.
 pub struct Loop {
     pub first: u16,
     pub last: u16,
     pub bound: u32,
+    pub visits: u32,
 }
 
 // What the last 32 bytes of a case file say of it, besides the offsets.
@@ -135,6 +136,7 @@ pub struct Trailer {
     pub policy: u8,
     pub ways: u8,
     pub sets: u8,
+    pub version: u8,
 }
 
 // What the order of facts asks of the previous fact: whether there is one, its block, and its scope's last node.

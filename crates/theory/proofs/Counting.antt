@@ -11,18 +11,19 @@ use mathlib.Core.List.{List}
 use borrow.Author.Tests.{eqb-true, eqb-false}
 use lib.Dec.{leb, ltb, eqb}
 use Rattle.paper.specs.declared.Loop.{Loop}
-use Rattle.paper.specs.Cases.{Case, inside}
-use Rattle.paper.specs.Graphs.{around, count, entriesOf}
+use Rattle.paper.specs.Cases.{Case, unlimited, inside}
+use Rattle.paper.specs.Lists.{chain}
+use Rattle.paper.specs.Graphs.{around, atMost, headerVisits, innermost, count, outer, entriesOf}
 use Rattle.paper.specs.Walks.{Walk, visits, KeepsLimits}
 use Rattle.paper.proofs.Least.{None, Found, look}
-use Rattle.paper.proofs.Says.{Says, holds, fails, says-lt, says-le, says-and, says-false, says-same, says-is}
+use Rattle.paper.proofs.Says.{Says, holds, fails, says-lt, says-le, says-eq, says-and, says-false, says-same, says-is}
 use Rattle.paper.proofs.Meaning.{In, SoundGraph}
 use Rattle.paper.proofs.GraphLaws.{inside-says, around-says}
+use Rattle.paper.proofs.Chain.{chain-same, chain-last}
 use Rattle.theory.proofs.Steps.{Over, earlier, ends-in}
 use Rattle.theory.proofs.Tally.{stays, arrivals}
-use Rattle.theory.proofs.Arrivals.{stays-arrivals, visits-arrivals, arrivals-header, arrivals-once}
+use Rattle.theory.proofs.Arrivals.{stays-arrivals, stays-visits, visits-arrivals, arrivals-header, arrivals-once}
 use Rattle.theory.proofs.Limits.{visits-stays}
-use Rattle.theory.proofs.Chain.{chain, chain-taken, chain-same, chain-end, product-chain}
 
 abbrev over : ℕ → Loop → Bool
 over t l = ltb (l .first) t && leb t (l .last)
@@ -96,14 +97,10 @@ module _ (e : Case) (s : SoundGraph e) (w : List ℕ) (walk : Walk e w) (f : ℕ
               test : ℕ → Bool
               test i = inside (e .loop i) v
 
-              all : e .loops ≡ suc j + (e .loops - suc j)
-              all = omega arith
-
               last-taken : chain f test (e .loops) ≡ f j (chain f (λ i. over v (e .loop i)) j)
               last-taken =
-                  ap (chain f test) all
-                  ∙ chain-end f test (suc j) (e .loops - suc j) (λ i a b. says-false (inside-says (e .loop i) v) .1 (λ o. omega (arith, s .rises j i a (omega arith), o)))
-                  ∙ chain-taken f test j (says-is (inside-says (e .loop j) v) (omega (arith, s .fits j m)))
+                  chain-last f test (e .loops) j m (says-is (inside-says (e .loop j) v) (omega (arith, s .fits j m)))
+                  (λ i a b. says-false (inside-says (e .loop i) v) .1 (λ o. omega (arith, s .rises j i a b, o)))
                   ∙ ap (f j) (sym (same j (λ i q x. omega (arith, s .rises i j q m))))
 
   stays-le-chain : (j : ℕ) → j < e .loops → stays (e .loop j) w ≤ chain f (λ i. around (e .loop j) (e .loop i)) (e .loops)

@@ -25,7 +25,7 @@ use Rattle.theory.proofs.Costs.{paid}
 use Rattle.theory.proofs.Passing.{passing-le-counts}
 use Rattle.theory.proofs.Law.{Machine, Fair, Law}
 use Rattle.paper.proofs.TestLaws.{covers-says}
-use Rattle.theory.proofs.Moves.{Held, Fine, move, missAt, misses, move-fine, miss-at}
+use Rattle.theory.proofs.Moves.{Held, Fine, move, missAt, misses, misses-le, move-fine, miss-at}
 use Rattle.theory.proofs.Since.{since, Taken, missed, fact-pays}
 
 module _ (e : Case) (M : Machine) (t : Fact) where
