@@ -78,7 +78,7 @@ module _ (e : Case) (s : SoundGraph e) (w : List ℕ) (walk : Walk e w) where
         stays-arrivals j m,
         tally-visits t none w,
         tally-le e (arrives t) (λ p v. eqb v t) (λ p. 0)
-            (λ p v d. omega (arith, bit-le (arrives-says t p v) (λ q. bit-one (says-eq v t) (q .0)))) none w k,
+            (λ p v d. omega (arith, bit-le (arrives-says t p v) (λ q. bit-one (says-eq v t) (q .0)))) none w walk,
       )
 
   -- `opens` holds of a visit of a node from a to t, or the node before was one from a to below t; where there is none, that is paid by c

@@ -13,11 +13,13 @@ use Rattle.paper.specs.Machines.{none}
 use Rattle.paper.specs.Cases.{Fact, Case, unlimited, inside, rangeOf, scopeOf}
 use Rattle.paper.specs.Graphs.{around, atMost, headerVisits, innermost, count, outer, entriesOf, entries}
 use Rattle.paper.specs.Bounds.{boundOf, covers, counts, entered, factBound, lives, uncovered, sumOf, upTo, M}
+use Rattle.paper.specs.Records.{withoutW}
 use Rattle.paper.specs.Files.{trailerOf, loopAt, caseOf, readCase}
 use Rattle.paper.proofs.Says.{Says, holds, fails, says-eq, says-is}
 use Rattle.paper.proofs.Meaning.{In, SoundFact, Sound}
 use Rattle.paper.proofs.GraphLaws.{inside-says, around-says}
 use Rattle.paper.proofs.Nests.{Around}
+use Rattle.paper.proofs.Versions.{visits-without}
 use Rattle.paper.proofs.TestLaws.{covers-says}
 use Rattle.theory.proofs.SumLaws.{sum-le, sum-at}
 
@@ -123,6 +125,6 @@ module _ (e : Case) (without : (j : ℕ) → j < e .loops → e .loop j .visits 
         (sum-same _ _ (e .facts) (λ i m. ap (λ (E : ℕ). cond (lives e q (e .fact i .block) && upTo e l (e .fact i)) E 0) (entered-entries (e .fact i) (s .facts i m))))
 
 -- "Version 1 is read as without W"
-pub version-one : (f : List ℕ) → trailerOf f .version ≡ 1 → (j : ℕ) → readCase f .loop j .visits ≡ unlimited
+pub version-one : (f : List ℕ) → trailerOf f .version ≡ withoutW → (j : ℕ) → readCase f .loop j .visits ≡ unlimited
 unfolding caseOf loopAt
-version-one f h j = rw (eq-eqb (trailerOf f .version) 1 h) refl
+version-one f h j = visits-without (trailerOf f .version) _ h

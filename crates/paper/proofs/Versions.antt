@@ -1,0 +1,52 @@
+-- A loop's record in each version: how long it is, that loop after loop fits before the facts, and what is read of W.
+use Prim.Native.Nat.{ℕ, suc, _+_, _*_, _≤_, _<_}
+use native.Mathlib.Omega.{arith}
+use native.Mathlib.Decide.{ℕ-discrete}
+use native.Mathlib.Nat.{mul-suc, mul-le-mul-left}
+use mathlib.Core.Path.{_≡_, refl, ap}
+use mathlib.Core.Logic.{_≢_}
+use mathlib.Core.Bool.{Bool, true, false, cond}
+use borrow.Author.Tests.{eq-eqb, ne-eqb}
+use lib.Dec.{eqb, lit≤}
+use Rattle.paper.specs.Cases.{unlimited}
+use Rattle.paper.specs.Records.{withoutW, widestLoop, sizeOf, visitsField, loopFields, loopSize}
+use Rattle.paper.specs.Files.{visitsBy}
+
+module _ (version : ℕ) where
+  pub size-without : version ≡ withoutW → loopSize version ≡ visitsField
+  unfolding loopSize loopFields
+  size-without h = rw (eq-eqb version withoutW h) refl
+
+  pub size-with : version ≢ withoutW → loopSize version ≡ sizeOf widestLoop
+  unfolding loopSize loopFields
+  size-with h = rw (ne-eqb version withoutW h) refl
+
+  -- there is room for all but W in both versions
+  pub size-low : visitsField ≤ loopSize version
+  size-low = elim (ℕ-discrete version withoutW) [ yes h ↦ omega (arith, size-without h) | no h ↦ omega (arith, size-with h) ]
+
+  pub size-high : loopSize version ≤ sizeOf widestLoop
+  size-high = elim (ℕ-discrete version withoutW) [ yes h ↦ omega (arith, size-without h) | no h ↦ omega (arith, size-with h) ]
+
+  -- loop j of n ends where they all end at the latest
+  pub loop-ends : (j n : ℕ) → j < n → loopSize version * j + loopSize version ≤ loopSize version * n
+  loop-ends j n h =
+      let next : suc j ≤ n = omega arith in
+      omega (arith, mul-suc (loopSize version) j, mul-le-mul-left (loopSize version) next)
+
+  -- "Version 1 is read as without W"
+  pub visits-without : (W : ℕ) → version ≡ withoutW → visitsBy version W ≡ unlimited
+  unfolding visitsBy
+  visits-without W h = rw (eq-eqb version withoutW h) refl
+
+  pub visits-with : (W : ℕ) → version ≢ withoutW → visitsBy version W ≡ W
+  unfolding visitsBy
+  visits-with W h = rw (ne-eqb version withoutW h) refl
+
+  -- what stands where no W does plays no part
+  pub visits-same : (W W′ : ℕ) → (version ≢ withoutW → W ≡ W′) → visitsBy version W ≡ visitsBy version W′
+  visits-same W W′ h =
+      elim (ℕ-discrete version withoutW) [
+        | yes p ↦ rw (visits-without W p, visits-without W′ p) refl
+        | no n ↦ ap (visitsBy version) (h n)
+      ]
