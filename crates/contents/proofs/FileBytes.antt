@@ -1,28 +1,32 @@
 -- What is written are bytes.
 use Prim.Native.Nat.{ℕ, zero, suc, _+_, _*_, _/_, _^_, _≤_, _<_}
 use native.Mathlib.Omega.{arith}
-use native.Mathlib.Nat.{pow-suc}
+use native.Mathlib.Decide.{ℕ-discrete}
+use native.Mathlib.Nat.{pow-suc, mul-le-mul}
 use mathlib.Core.Path.{_≡_}
 use mathlib.Core.Bool.{false}
-use mathlib.Core.Logic.{inl, inr}
+use mathlib.Core.Logic.{inl, inr, ⊎-elim}
 use mathlib.Core.List.{List, _++_}
-use borrow.Author.Tests.{not-false}
+use lib.ListN.{getD}
+use borrow.Author.Tests.{not-false, eq-eqb, ne-eqb}
 use Rattle.paper.specs.declared.Trailer.{Trailer}
 use Rattle.paper.specs.declared.Verdict.the-variants.{Accepted}
 use Rattle.paper.specs.Lists.{least, some}
 use Rattle.paper.specs.Cases.{Case}
 use Rattle.paper.specs.Graphs.{badEdge, badLoop}
 use Rattle.paper.specs.Demands.{Bytes}
-use Rattle.paper.specs.Files.{badCache, badNumbers, letters, version, edgesAt, loopsAt, factsAt}
+use Rattle.paper.specs.Files.{badCache, badNumbers, letters, edgesAt, loopsAt, factsAt}
+use Rattle.paper.specs.Records.{withoutW, loopFields}
 use Rattle.paper.specs.Rules.{Passes}
 use Rattle.paper.specs.Verdicts.{shapeRules}
-use Rattle.paper.specs.Writing.{FileContent, InWidths, trailerIn, loopIn, caseIn, numberBytes, loopBytes, trailerBytes, factBytes, fileOf, writeVerdict}
+use Rattle.paper.specs.Writing.{FileContent, InWidths, perLoop, trailerIn, loopIn, caseIn, numberBytes, loopBytes, trailerBytes, factBytes, fileOf, writeVerdict}
 use Rattle.paper.proofs.Least.{none-some}
-use Rattle.paper.proofs.Says.{says-true, says-false}
+use Rattle.paper.proofs.Says.{says-lt, says-true, says-false, says-stable}
 use Rattle.paper.proofs.States.{says-range}
 use Rattle.paper.proofs.RuleLaws.{past}
 use Rattle.paper.proofs.GraphLaws.{loop-says}
-use Rattle.paper.proofs.FileLaws.{numbers-says}
+use Rattle.paper.proofs.FileLaws.{version-says, numbers-says}
+use Rattle.paper.proofs.Versions.{size-high, visits-low}
 use Rattle.paper.proofs.VerdictLaws.{shape-kept}
 use Rattle.paper.proofs.Widths.{below-nil, below-cons, below-append, below-each, below-at, below-part, words-bytes}
 use Rattle.contents.proofs.Kept.{Writable, write-writable}
@@ -62,13 +66,37 @@ module _ (c : FileContent) (w : InWidths c) (k : Writable c) where
   abbrev t : Trailer
   t = trailerIn c
 
-  loop-bytes : (j : ℕ) → j < t .loops → Bytes (loopBytes (loopIn c j))
-  unfolding caseIn loopBytes
-  loop-bytes j l =
+  -- a loop's numbers but W, and what comes after them
+  front-bytes :
+      (j : ℕ) → j < t .loops → (s : List ℕ) → Bytes s
+      → Bytes (numberBytes 2 (loopIn c j .first) ++ (numberBytes 2 (loopIn c j .last) ++ (numberBytes 4 (loopIn c j .bound) ++ s)))
+  unfolding caseIn
+  front-bytes j l s b =
       let n = small t (k .numbers) in
       let f = shape-kept (caseIn c) Accepted (k .shape) .0 .fits j l in
       number-bytes 2 _ _ (omega (arith, n .nodes, f .0, f .1))
-      (number-bytes 2 _ _ (omega (arith, n .nodes, f .1)) (number-bytes 4 _ _ (omega (arith, bound-small (caseIn c) (k .shape) j l)) (below-nil 256)))
+      (number-bytes 2 _ _ (omega (arith, n .nodes, f .1)) (number-bytes 4 _ _ (omega (arith, bound-small (caseIn c) (k .shape) j l)) b))
+
+  visits-bytes : (j : ℕ) → loopIn c j .visits < 4294967296
+  unfolding loopIn
+  visits-bytes j =
+      let W = getD (c .loops) (perLoop (c .version) * j + 3) 0 in
+      let low : W < 4294967296 = below-at 4294967296 (c .loops) (omega arith) (w .loops) _ in
+      omega (arith, visits-low (c .version) W (omega arith))
+
+  loop-bytes : (j : ℕ) → j < t .loops → Bytes (loopBytes (c .version) (loopIn c j))
+  unfolding loopBytes loopFields
+  loop-bytes j l =
+      elim (ℕ-discrete (c .version) withoutW) [
+        | yes h ↦ rw (eq-eqb (c .version) withoutW h) (front-bytes j l _ (below-nil 256))
+        | no h ↦ rw (ne-eqb (c .version) withoutW h) (front-bytes j l _ (number-bytes 4 _ _ (visits-bytes j) (below-nil 256)))
+      ]
+
+  -- the facts begin where their offset's width can say
+  facts-low : factsAt t < 4294967296
+  facts-low =
+      let n = small t (k .numbers) in
+      omega (arith, n .nodes, n .edges, mul-le-mul (size-high (t .version)) (n .loops))
 
   fact-bytes : (i : ℕ) → Bytes (factBytes c i)
   unfolding factBytes
@@ -80,14 +108,14 @@ module _ (c : FileContent) (w : InWidths c) (k : Writable c) where
       (words-bytes _ (below-part 65536 (c .rows) (omega arith) (w .rows) _ _))
 
   trailer-bytes : Bytes (trailerBytes t)
-  unfolding trailerBytes badCache
+  unfolding trailerIn trailerBytes badCache
   trailer-bytes =
       let n = small t (k .numbers) in
       let r = says-true (says-range (t .policy) (t .ways) (t .sets)) (not-false _ (k .cache)) in
       number-bytes 4 0 _ (omega arith)
       (number-bytes 4 (edgesAt t) _ (omega (arith, n .nodes))
       (number-bytes 4 (loopsAt t) _ (omega (arith, n .nodes, n .edges))
-      (number-bytes 4 (factsAt t) _ (omega (arith, n .nodes, n .edges, n .loops))
+      (number-bytes 4 (factsAt t) _ facts-low
       (number-bytes 2 (t .nodes) _ (omega (arith, n .nodes))
       (number-bytes 2 (t .edges) _ (omega (arith, n .edges))
       (number-bytes 2 (t .loops) _ (omega (arith, n .loops))
@@ -95,8 +123,11 @@ module _ (c : FileContent) (w : InWidths c) (k : Writable c) where
       (number-bytes 1 (t .policy) _ (omega (arith, r .0 .known))
       (number-bytes 1 (t .ways) _ (omega (arith, r .0 .most))
       (number-bytes 1 (t .sets) _ (omega (arith, r .1 .1))
-      (number-bytes 1 version letters (omega arith) letters-bytes)))))))))))
+      (number-bytes 1 (t .version) letters known letters-bytes)))))))))))
     where
+      known : t .version < 256
+      known = says-stable (says-lt (c .version) 256) λ n. says-false (version-says (c .version)) .0 (k .version) (λ o. n (⊎-elim (λ p. omega arith) (λ p. omega arith) o))
+
       letters-bytes : Bytes letters
       letters-bytes = let next = below-cons 256 in next _ _ (omega arith) (next _ _ (omega arith) (next _ _ (omega arith) (next _ _ (omega arith) (below-nil 256))))
 

@@ -1,6 +1,7 @@
 pub mod Spaced
 pub mod Standing
 pub mod Fields
+pub mod LoopRecords
 pub mod Trailers
 pub mod Kept
 pub mod SameCases

@@ -189,6 +189,7 @@ module _ (f : List ℕ) (t : Fact) (rows : List ℕ) (kept : KeptLayout f (trail
       record {
         long = omega (arith, file-length);
         letters = letters-same ∙ kept .letters;
+        version = kept .version;
         cache = kept .cache;
         numbers = numbers-kept;
         offsets = offsets-kept;
