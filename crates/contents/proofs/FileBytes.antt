@@ -26,7 +26,7 @@ use Rattle.paper.proofs.States.{says-range}
 use Rattle.paper.proofs.RuleLaws.{past}
 use Rattle.paper.proofs.GraphLaws.{loop-says}
 use Rattle.paper.proofs.FileLaws.{version-says, numbers-says}
-use Rattle.paper.proofs.Versions.{size-high, visits-low}
+use Rattle.paper.proofs.LoopSizes.{size-high, visits-low}
 use Rattle.paper.proofs.VerdictLaws.{shape-kept}
 use Rattle.paper.proofs.Widths.{below-nil, below-cons, below-append, below-each, below-at, below-part, words-bytes}
 use Rattle.contents.proofs.Kept.{Writable, write-writable}

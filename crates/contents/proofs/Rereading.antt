@@ -20,7 +20,7 @@ use Rattle.paper.proofs.FactLaws.{head-sound}
 use Rattle.paper.proofs.SameGraphs.{shape-same}
 use Rattle.paper.proofs.Parts.{Stands, stands-self, stands-left, stands-right, stands-move}
 use Rattle.paper.proofs.Sections.{word-is}
-use Rattle.paper.proofs.Versions.{visits-without}
+use Rattle.paper.proofs.LoopSizes.{visits-without}
 use Rattle.contents.proofs.Spaced.{each-rises, parts-all, length-spaced, sum-all, sum-times, each-same}
 use Rattle.contents.proofs.Standing.{stands-at}
 use Rattle.contents.proofs.Fields.{record-is, words-read, length-head}

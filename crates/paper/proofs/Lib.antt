@@ -15,7 +15,7 @@ pub mod DeadPlaces
 pub mod GraphLaws
 pub mod Chain
 pub mod Nests
-pub mod Versions
+pub mod LoopSizes
 pub mod RowLaws
 pub mod FactLaws
 pub mod VerdictLaws

@@ -6,6 +6,7 @@ mod cache;
 mod ceilings;
 mod methods;
 mod policies;
+mod versions;
 
 pub use cache::home;
 pub use cache::home_in;
@@ -29,6 +30,11 @@ pub use policies::LRU;
 pub use policies::NMRU;
 pub use policies::bits_below;
 pub use policies::has_floors;
+pub use versions::UNLIMITED;
+pub use versions::WITH_W;
+pub use versions::WITHOUT_W;
+pub use versions::at_most;
+pub use versions::is_bad_version;
 
 // "Addresses, block numbers and set numbers, which the sources distinguish, are each kept apart."
 pub struct Address(pub u32);

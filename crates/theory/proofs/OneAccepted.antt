@@ -19,7 +19,7 @@ use Rattle.paper.specs.Rules.{Passes}
 use Rattle.paper.specs.Verdicts.{graphRules, headRule, orderRule, fetchRule, evidenceRules, bodyRules, turnRules, turnsFrom, factRules, wholeFileRules, verdict}
 use Rattle.paper.specs.OneFact.{graphBytes, fileWith}
 use Rattle.paper.specs.Demands.{withRows}
-use Rattle.paper.proofs.Versions.{size-with, size-low, loop-ends, visits-same}
+use Rattle.paper.proofs.LoopSizes.{size-with, size-low, loop-ends, visits-same}
 use Rattle.paper.proofs.Meaning.{SoundEvidence}
 use Rattle.paper.proofs.RuleLaws.{past, accepted-on}
 use Rattle.paper.proofs.FileLaws.{laid}

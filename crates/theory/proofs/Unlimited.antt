@@ -19,7 +19,7 @@ use Rattle.paper.proofs.Says.{Says, holds, fails, says-eq, says-is}
 use Rattle.paper.proofs.Meaning.{In, SoundFact, Sound}
 use Rattle.paper.proofs.GraphLaws.{inside-says, around-says}
 use Rattle.paper.proofs.Nests.{Around}
-use Rattle.paper.proofs.Versions.{visits-without}
+use Rattle.paper.proofs.LoopSizes.{visits-without}
 use Rattle.paper.proofs.TestLaws.{covers-says}
 use Rattle.theory.proofs.SumLaws.{sum-le, sum-at}
 
