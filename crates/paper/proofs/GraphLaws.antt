@@ -121,6 +121,12 @@ module _ (e : Case) (kept : None (badLoop e) (e .loops)) where
           (e .loop j .first ≤ e .loop j .last) × (e .loop j .last < e .nodes) × (1 ≤ e .loop j .bound)
       all a b c = (omega arith, omega arith, omega arith)
 
+  limited : (j : ℕ) → j < e .loops → 1 ≤ e .loop j .visits
+  limited j h = over (λ p. loop-kept j h (inr (inr (inr (inr (inl p))))))
+    where
+      over : ¬ (e .loop j .visits < 1) → 1 ≤ e .loop j .visits
+      over n = omega arith
+
 -- No edge and no loop breaks one of the rules 6 and 7.
 module _ (e : Case) (edges : None (badEdge e) (e .edges)) (loops : None (badLoop e) (e .loops)) where
   ends-at : (i : ℕ) → i < e .edges → (e .from i < e .nodes) × (e .to i < e .nodes)
@@ -139,7 +145,7 @@ module _ (e : Case) (edges : None (badEdge e) (e .edges)) (loops : None (badLoop
       ]
 
   pub shaped : Shaped e
-  shaped = record { ends = ends-at; climbs = climbs-at; fits = fits e loops; rises = rises e loops; nested = nested e loops }
+  shaped = record { ends = ends-at; climbs = climbs-at; fits = fits e loops; limited = limited e loops; rises = rises e loops; nested = nested e loops }
 
 -- What rule 8 gives.
 pub forward-at : (e : Case) → None (badEntry e) (e .edges) → (u v : ℕ) → Edge e u v → u < v → (j : ℕ) → j < e .loops → In (e .loop j) v → ¬ In (e .loop j) u → v ≡ e .loop j .first

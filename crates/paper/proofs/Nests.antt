@@ -2,9 +2,9 @@
 -- Every loop's header visits are so the count of its header, and rule 10 tests them all.
 use Prim.Native.Nat.{ℕ, zero, suc, _+_, _-_, _*_, _≤_, _<_, min}
 use native.Mathlib.Omega.{arith}
-use native.Mathlib.Decide.{ℕ-discrete, decLe}
-use native.Mathlib.Nat.{suc-mul}
-use mathlib.Core.Path.{_≡_, refl, sym, _∙_, ap}
+use native.Mathlib.Decide.{ℕ-discrete}
+use native.Mathlib.Nat.{mul-pos}
+use mathlib.Core.Path.{_≡_, sym, _∙_, ap}
 use mathlib.Core.Bool.{Bool, true, false, cond}
 use lib.Dec.{eqb}
 use Rattle.paper.specs.declared.Loop.{Loop}
@@ -19,6 +19,25 @@ use Rattle.paper.proofs.Chain.{chain-same, chain-end, chain-last, chain
 -- loop o is strictly around loop l
 abbrev pub Around : Loop → Loop → Type 0
 Around l o = (o .first < l .first) × (l .last ≤ o .last)
+
+-- where every limit is above 0, so is every number of visits
+module _ (e : Case) (bounds : (j : ℕ) → j < e .loops → 1 ≤ e .loop j .bound) (limits : (j : ℕ) → j < e .loops → 1 ≤ e .loop j .visits) where
+  header-pos : (j : ℕ) → j < e .loops → (n : ℕ) → 1 ≤ n → 1 ≤ headerVisits e j n
+  unfolding headerVisits atMost
+  header-pos j h n low = go (eqb (e .loop j .visits) unlimited) (mul-pos (bounds j h) low)
+    where
+      go : (b : Bool) {m : ℕ} → 1 ≤ m → 1 ≤ cond b m (min (e .loop j .visits) m)
+      go true q = q
+      go false q = omega (arith, limits j h)
+
+  pub visits-pos : (test : ℕ → Bool) (n : ℕ) → n ≤ e .loops → 1 ≤ chain (headerVisits e) test n
+  unfolding chain
+  visits-pos test zero h = omega arith
+  visits-pos test (suc n) h = go (test n) (visits-pos test n (omega arith))
+    where
+      go : (b : Bool) {k : ℕ} → 1 ≤ k → 1 ≤ cond b (headerVisits e n k) k
+      go true {k} q = header-pos n h k q
+      go false q = q
 
 -- what rule 7 gives
 module _ (e : Case)
@@ -108,35 +127,3 @@ module _ (e : Case)
         outer-next i j n m (says-true (around-says (e .loop j) (e .loop i)) taken)
             (λ x a c. says-false (around-says (e .loop j) (e .loop x)) .0 (later x a c)),
       )
-
--- A number above 32 bits as 2 to the 32. With a W what is too large outside need not be too large inside, so it must not absorb; but how large it is plays no part.
-abbrev pub full : ℕ → ℕ
-full n = min n 4294967296
-
-full-times : (B n : ℕ) → full (B * full n) ≡ full (B * n)
-full-times zero n = omega arith
-full-times (suc B) n =
-    elim (decLe n 4294967296) [
-      | yes l ↦ let z : full n ≡ n = omega arith in rw z refl
-      | no l ↦ let z : full n ≡ 4294967296 = omega arith in rw z (omega (arith, suc-mul B n))
-    ]
-
-at-most-full : (W x y : ℕ) → W < 4294967296 → full x ≡ full y → full (atMost W x) ≡ full (atMost W y)
-unfolding atMost
-at-most-full W x y low h = go (eqb W unlimited)
-  where
-    go : (b : Bool) → full (cond b x (min W x)) ≡ full (cond b y (min W y))
-    go true = h
-    go false = omega arith
-
--- the count, computed with numbers up to 2 to the 32
-pub chain-full :
-    (e : Case) (small : (j : ℕ) → j < e .loops → e .loop j .visits < 4294967296) (test : ℕ → Bool) (n : ℕ) → n ≤ e .loops
-    → full (chain (headerVisits e) test n) ≡ chain (λ j k. full (headerVisits e j k)) test n
-unfolding chain headerVisits
-chain-full e small test zero h = refl
-chain-full e small test (suc n) h = rw (← chain-full e small test n (omega arith)) (go (test n) (chain (headerVisits e) test n))
-  where
-    go : (b : Bool) (k : ℕ) → full (cond b (headerVisits e n k) k) ≡ cond b (full (headerVisits e n (full k))) (full k)
-    go true k = at-most-full (e .loop n .visits) (e .loop n .bound * k) (e .loop n .bound * full k) (small n h) (sym (full-times (e .loop n .bound) k))
-    go false k = refl
