@@ -51,11 +51,13 @@ fn charge_fact(
     let h = heads::head_at(file, trailer, counts, p);
     let e = outers::entries_of(file, trailer, counts, outers, p, h.scope);
     let n = chains::cover_nodes(file, trailer, counts, chain, h, cover);
+    // "every bound uses the lesser of E and N in place of E"
+    let x = formulas::lesser(e, n);
     Cost {
         block: h.block,
         limit: h.limit,
-        entered: e,
-        bound: formulas::bound_of(trailer.policy, trailer.ways as u64, h.limit as u64, e, n),
+        entered: x,
+        bound: formulas::bound_of(trailer.policy, trailer.ways as u64, h.limit as u64, x, n),
         next: h.next,
     }
 }

@@ -1,4 +1,4 @@
-// E: "Entries of a loop: the product over the loops strictly around it", which is the count of the next loop's header out of it, and 1 where there is none.
+// E: "its entries the lesser of W and that outer number", the header visits of the next loop out: its header's count, and 1 where there is none.
 ghost use mathlib.Core.Path.{_≡_};
 ghost use mathlib.Core.Logic.{_≢_};
 ghost use Prim.Native.Nat.{_<_, _≤_};
@@ -47,6 +47,22 @@ pub fn chain_loops(file: &[u8], trailer: Trailer, outers: &mut [u16; LOOPS])
     }
 }
 
+// The header visits of the next loop out of loop w, "1 outside all loops".
+fn outer_of(file: &[u8], trailer: Trailer, counts: &[u32], outers: &[u16; LOOPS], w: u16) -> u64
+    requires { ⌜ Ready (now file) trailer (now counts) ⌝ }
+    requires { ⌜ NextOut.Outers (Files.caseOf (now file) trailer) (trailer .loops) (now outers) ⌝ }
+    requires { ⌜ w < trailer .loops ⌝ }
+    ensures { λ r. ⌜ r ≡ Graphs.outer (Files.caseOf (now (file .entry)) trailer) (Files.loopAt (now (file .entry)) trailer w) ⌝ }
+    ensures { λ r. ⌜ r ≤ Ceilings.mostCount ⌝ }
+{
+    let c = outers[w as usize];
+    if c == 0 {
+        return 1;
+    }
+    let header = layout::loop_at(file, trailer, c - 1).first as usize;
+    counts[header] as u64
+}
+
 // E of the fact at p, whose scope is w: "the whole graph with one entry".
 pub fn entries_of(
     file: &[u8],
@@ -66,10 +82,6 @@ pub fn entries_of(
     if w == 65535 {
         return 1;
     }
-    let c = outers[w as usize];
-    if c == 0 {
-        return 1;
-    }
-    let header = layout::loop_at(file, trailer, c - 1).first as usize;
-    counts[header] as u64
+    let n = outer_of(file, trailer, counts, outers, w);
+    paper::at_most(layout::loop_at(file, trailer, w).visits, n)
 }

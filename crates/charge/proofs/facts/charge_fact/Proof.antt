@@ -23,23 +23,30 @@ entries-of-requires c κs =
     (p .0, (p .1 .0, (scope c, scope-low _ _ _ _ (scope c) (p .1 .1 .1 .0))))
 
 -- where its bound is computed
-abbrev read : tie.After-struct-known2 → tie.After-entries-of
-read c = c .before .before .before .before
+abbrev chosen : tie.After-struct-known2 → tie.After-lesser
+chosen c = c .before .before
+
+abbrev read : tie.After-lesser → tie.After-entries-of
+read c = c .before .before .before
 
 bound-of-requires : tie.Need-bound-of-requires
 unfolding caseOf headOf
 bound-of-requires c κs =
-    let h = read c .before in
+    let m = chosen c in
+    let h = read m .before in
     let p = start h .pre in
-    let el = ap (λ (k : Head). k .limit) (h .head-at .ensures) in
-    (omega (arith, el, p .1 .1 .1 .0 .high), (p .0 .laid .ways-high, (read c .entries-of .ensures .1, c .before .before .cover-nodes .ensures .1 .0)))
+    let el = ap (λ (k : Head). k .limit) (h .head-at .ensures) in (
+      omega (arith, el, p .1 .1 .1 .0 .high),
+      (p .0 .laid .ways-high, (omega (arith, m .lesser .ensures, read m .entries-of .ensures .1), m .before .cover-nodes .ensures .1 .0)),
+    )
 
 returns : tie.Need-returns
 returns c =
-    let e = read (c .before) in
+    let m = chosen (c .before) in
+    let e = read m in
     let eh = e .before .head-at .ensures in
-    let n = c .before .before .before .cover-nodes .ensures in
-    (cost-is _ _ _ _ eh _ _ _ (e .entries-of .ensures .0) (n .0) (c .bound-of .ensures), lowered-is _ _ _ _ eh _ _ (n .1 .1))
+    let n = m .before .cover-nodes .ensures in
+    (cost-is _ _ _ _ eh _ _ _ _ (e .entries-of .ensures .0) (n .0) (m .lesser .ensures) (c .bound-of .ensures), lowered-is _ _ _ _ eh _ _ (n .1 .1))
 
 pub charge-fact-spec : {M : Type 1} → statement M
 charge-fact-spec =
@@ -48,6 +55,6 @@ charge-fact-spec =
     (λ c κs. let p = c .before .before .pre in (p .0, (p .1 .1 .1 .0, p .1 .1 .1 .1 .0)))
     entries-of-requires
     (λ c κs. let p = start (c .before .before) .pre in (p .0, (p .1 .1 .0, p .1 .1 .1 .1 .1)))
-    (λ c. search needs) (λ c. search needs)
+    (λ c κs. search needs) (λ c. search needs) (λ c. search needs)
     bound-of-requires
     returns)

@@ -1,13 +1,8 @@
--- The table has the next loop out, and the counts have its header's, which is E.
+-- The whole graph is entered once; a loop at most W times, and as often as the next loop out has its header visited.
 use native.Mathlib.Omega.{arith}
-use Prim.Native.Nat.{_<_, _≤_}
-use mathlib.Core.Path.{_≡_}
+use mathlib.Core.Path.{sym, _∙_}
 use borrow.Author.Needs.{needs}
-use lib.ListN.{getD}
-use Rattle.paper.specs.Files.{caseOf, factAt}
-use Rattle.paper.specs.Graphs.{entries}
-use Rattle.paper.specs.Ceilings.{mostCount}
-use Rattle.charge.proofs.Entries.{entries-whole, entries-alone, next-low, next-header}
+use Rattle.charge.proofs.Entries.{at-most-le, entries-whole, entries-loop}
 use Rattle.charge.proofs.outers.entries_of.Statement.{statement}
 use Rattle.charge.proofs.outers.entries_of.Tie as tie
 
@@ -15,50 +10,24 @@ use Rattle.charge.proofs.outers.entries_of.Tie as tie
 abbrev start : tie.Else1 → tie.Start
 start c = c .before .before .before
 
-scope : (c : tie.Else1) → start c .args .w < start c .args .trailer .loops
-scope c = start c .pre .1 .1 .1 (c .if1 .left)
-
 returns : tie.Need-returns
-returns c =
-    let p = c .before .before .before .pre in
-    (entries-whole _ _ _ _ (p .0) (p .1 .0) _ _ (p .1 .1 .0) (c .if1 .taken), omega arith)
+returns c = let p = c .before .before .before .pre in (entries-whole _ _ _ _ (p .1 .1 .0) (c .if1 .taken), omega arith)
 
-returns-2 : tie.Need-returns-2
-returns-2 c =
-    let e = c .before .before in
-    let p = start e .pre in
-    (entries-alone _ _ _ _ (p .0) (p .1 .0) _ _ (p .1 .1 .0) (e .if1 .left) (scope e) (c .if2 .taken), omega arith)
+outer-of-requires : tie.Need-outer-of-requires
+outer-of-requires c κs = let p = start c .pre in (p .0, (p .1 .0, p .1 .1 .1 (c .if1 .left)))
 
 loop-at-requires : tie.Need-loop-at-requires
 loop-at-requires c κs =
-    let e = c .before .before in
-    let p = start e .pre in
-    (p .0 .laid, next-low _ _ _ _ (p .0) (p .1 .0) _ _ (p .1 .1 .0) (e .if1 .left) (scope e) (c .if2 .left))
+    let s = c .before in
+    (start s .pre .0 .laid, start s .pre .1 .1 .1 (s .if1 .left))
 
-header : (c : tie.After-loop-at) →
-    let a = start (c .before .before .before) .args in
-    let n = getD (a .counts .now) (c .loop-at .result .first) 0 in
-    (c .loop-at .result .first < a .trailer .nodes) × ((n ≡ entries (caseOf (a .file .now) (a .trailer)) (factAt (a .file .now) (a .p))) × (n ≤ mostCount))
-header c =
-    let e = c .before .before .before in
-    let p = start e .pre in
-    next-header _ _ _ _ (p .0) (p .1 .0) _ _ (p .1 .1 .0) (e .if1 .left) (scope e) (c .before .if2 .left) _ (c .loop-at .ensures)
-
--- where the count is read
-abbrev found : tie.After-shared-slice-known3 → tie.After-loop-at
-found c = c .before .before
+returns-2 : tie.Need-returns-2
+returns-2 c =
+    let l = c .before in
+    let n = l .before in
+    let s = n .before in
+    let is = rw (l .loop-at .ensures, n .outer-of .ensures .0) at (c .at-most .ensures) in
+    (is ∙ sym (entries-loop _ _ _ _ (start s .pre .1 .1 .0) (s .if1 .left)), omega (arith, c .at-most .ensures, n .outer-of .ensures .1, at-most-le (l .loop-at .result .visits) (n .outer-of .result)))
 
 pub entries-of-spec : {M : Type 1} → statement M
-entries-of-spec =
-    tie.close
-    (tie.spec
-    returns
-    (λ c. search needs)
-    (λ c. omega (arith, scope c, start c .pre .0 .laid .loops-high))
-    returns-2
-    (λ c. search needs)
-    loop-at-requires
-    (λ c. search needs) (λ c. search needs)
-    (λ c. omega (arith, header (found c) .0, start (found c .before .before .before) .pre .0 .counted .room))
-    (λ c. omega (arith, header (found c) .1 .1))
-    (λ c. header (found c) .1))
+entries-of-spec = tie.close (tie.spec returns outer-of-requires loop-at-requires (λ c κs. search needs) returns-2)
