@@ -11,6 +11,12 @@ use Rattle.paper.specs.Records.{withoutW, widestLoop, sizeOf, visitsFiel
 use Rattle.paper.specs.Files.{visitsBy}
 use Rattle.paper.specs.Writing.{perLoop}
 
+-- record j of n ends where they all end at the latest
+pub record-ends : (p j n : ℕ) → j < n → p * j + p ≤ p * n
+record-ends p j n h =
+    let next : suc j ≤ n = omega arith in
+    omega (arith, mul-suc p j, mul-le-mul-left p next)
+
 module _ (version : ℕ) where
   pub size-without : version ≡ withoutW → loopSize version ≡ visitsField
   unfolding loopSize loopFields
@@ -39,11 +45,8 @@ module _ (version : ℕ) where
   pub per-low : 3 ≤ perLoop version
   per-low = elim (ℕ-discrete version withoutW) [ yes h ↦ omega (arith, per-without h) | no h ↦ omega (arith, per-with h) ]
 
-  -- loop j of n ends where they all end at the latest
   pub loop-ends : (j n : ℕ) → j < n → loopSize version * j + loopSize version ≤ loopSize version * n
-  loop-ends j n h =
-      let next : suc j ≤ n = omega arith in
-      omega (arith, mul-suc (loopSize version) j, mul-le-mul-left (loopSize version) next)
+  loop-ends j n h = record-ends (loopSize version) j n h
 
   -- "Version 1 is read as without W"
   pub visits-without : (W : ℕ) → version ≡ withoutW → visitsBy version W ≡ unlimited
