@@ -1,10 +1,10 @@
 -- "Its entries the lesser of W and that outer number": the header visits of the next loop out are its header's count, and 1 where no loop is around.
-use Prim.Native.Nat.{ℕ, zero, suc, _-_, _≤_, _<_, min}
+use Prim.Native.Nat.{ℕ, suc, _-_, _≤_, _<_}
 use native.Mathlib.Omega.{arith}
 use native.Mathlib.Decide.{ℕ-discrete, decLt}
 use mathlib.Core.Path.{_≡_, refl, sym, _∙_, ap}
 use mathlib.Core.Logic.{_≢_}
-use mathlib.Core.Bool.{Bool, true, false, cond}
+use mathlib.Core.Bool.{Bool}
 use mathlib.Core.List.{List}
 use borrow.Author.Tests.{eq-eqb, ne-eqb}
 use lib.Dec.{eqb}
@@ -12,17 +12,20 @@ use lib.ListN.{getD}
 use Rattle.paper.specs.declared.Loop.{Loop}
 use Rattle.paper.specs.declared.Trailer.{Trailer}
 use Rattle.paper.specs.Machines.{none}
-use Rattle.paper.specs.Cases.{Fact, Case, unlimited, inside}
+use Rattle.paper.specs.Cases.{Fact, Case, unlimited, inside, rangeOf}
 use Rattle.paper.specs.Graphs.{count, outer, atMost, entriesOf, entries}
 use Rattle.paper.specs.Files.{loopAt, factAt, caseOf}
 use Rattle.paper.proofs.Meaning.{In, SoundGraph}
 use Rattle.paper.proofs.Says.{says-true, says-false}
 use Rattle.paper.proofs.GraphLaws.{inside-says}
-use Rattle.paper.proofs.Nests.{Around, outer-next, outer-alone}
+use Rattle.paper.proofs.Nests.{Around, outer-next, outer-alone, outer-low}
 use Rattle.paper.specs.Ceilings.{mostCount}
 use Rattle.charge.specs.NextOut.{nextOut, Outers}
 use Rattle.charge.specs.ReadyFile.{Ready}
+use Rattle.charge.specs.Tables.{headOf}
+use Rattle.charge.specs.declared.heads.Head.{Head}
 use Rattle.charge.proofs.Last.{last-low, last-is, last-none}
+use Rattle.charge.proofs.SmallSums.{cond-low}
 
 module _ (e : Case) (g : SoundGraph e) (j : ℕ) (hj : j < e .loops) where
   fits : (i : ℕ) → i < e .loops → e .loop i .first ≤ e .loop i .last
@@ -64,32 +67,20 @@ module _ (e : Case) (g : SoundGraph e) (j : ℕ) (hj : j < e .loops) where
   pub next-none : nextOut e j ≡ 0 → outer e (e .loop j) ≡ 1
   next-none q = outer-alone e fits (g .rises) (g .nested) j (λ x hx. none-later 0 q x (omega arith) hx)
 
-  outer-low : outer e (e .loop j) ≤ mostCount
-  outer-low = go (nextOut e j) refl
-    where
-      go : (c : ℕ) → nextOut e j ≡ c → outer e (e .loop j) ≤ mostCount
-      go zero q = omega (arith, next-none q)
-      go (suc i) q =
-          let r = next-count i q in
-          let s = g .fits i (omega (arith, r .0)) in
-          omega (arith, r .1, g .counts (e .loop i .first) (omega (arith, s .0, s .1)))
-
--- the lesser is no larger
-pub at-most-le : (W n : ℕ) → atMost W n ≤ n
-unfolding atMost
-at-most-le W n = go (eqb W unlimited)
-  where
-    go : (b : Bool) → cond b n (min W n) ≤ n
-    go true = omega arith
-    go false = omega arith
+  -- what is around a loop is no larger than a count, and W makes it no larger
+  loop-low : entriesOf e (e .loop j) ≤ mostCount
+  unfolding entriesOf atMost
+  loop-low =
+      let low = outer-low e fits (g .rises) (g .nested) mostCount (omega arith) (λ i h. g .counts (e .loop i .first) (omega (arith, g .fits i h .0, g .fits i h .1))) j hj in
+      cond-low (eqb (e .loop j .visits) unlimited) low (omega arith)
 
 -- E of a fact whose scope is one of the loops or the whole graph
 pub entries-low : (e : Case) → SoundGraph e → (t : Fact) → (t .scope ≢ none → t .scope < e .loops) → entries e t ≤ mostCount
-unfolding entries entriesOf
+unfolding entries
 entries-low e g t h =
     elim (ℕ-discrete (t .scope) none) [
       | yes q ↦ rw (eq-eqb (t .scope) none q) (omega arith)
-      | no q ↦ rw (ne-eqb (t .scope) none q) (omega (arith, at-most-le (e .loop (t .scope) .visits) (outer e (e .loop (t .scope))), outer-low e g (t .scope) (h q)))
+      | no q ↦ rw (ne-eqb (t .scope) none q) (loop-low e g (t .scope) (h q))
     ]
 
 -- what the code reads: the table of the next loops out, and the counts
@@ -110,23 +101,22 @@ module _ (f : List ℕ) (trailer : Trailer) (counts outers : List ℕ) (r : Read
 
     pub next-header :
         (l : Loop) → l ≡ loopAt f trailer (getD outers w 0 - 1)
-        → (l .first < trailer .nodes) × ((getD counts (l .first) 0 ≡ outer (caseOf f trailer) (loopAt f trailer w)) × (getD counts (l .first) 0 ≤ mostCount))
+        → (l .first < trailer .nodes) × (getD counts (l .first) 0 ≡ outer (caseOf f trailer) (loopAt f trailer w))
     unfolding caseOf
     next-header l el =
-        let g = r .sound .graph in
-        let s = g .fits (getD outers w 0 - 1) next-low in
+        let s = r .sound .graph .fits (getD outers w 0 - 1) next-low in
         let h : loopAt f trailer (getD outers w 0 - 1) .first < trailer .nodes = omega (arith, s .0, s .1) in
-        let q = r .counted .at (loopAt f trailer (getD outers w 0 - 1) .first) h in
-        rw el (h, (q ∙ sym (next-loop .1), omega (arith, q, next-loop .1, outer-low (caseOf f trailer) g w hw)))
+        rw el (h, r .counted .at (loopAt f trailer (getD outers w 0 - 1) .first) h ∙ sym (next-loop .1))
 
--- E by its scope
-module _ (f : List ℕ) (trailer : Trailer) (p w : ℕ) (ew : w ≡ factAt f p .scope) where
+-- E of the fact at p, of which h was read
+module _ (f : List ℕ) (trailer : Trailer) (p : ℕ) (h : Head) (eh : h ≡ headOf f trailer p) where
   -- "the whole graph with one entry"
-  pub entries-whole : w ≡ none → 1 ≡ entries (caseOf f trailer) (factAt f p)
-  unfolding entries
-  entries-whole h = rw (← ew, eq-eqb w none h) refl
+  pub entries-whole : h .scope ≡ none → 1 ≡ entries (caseOf f trailer) (factAt f p)
+  unfolding entries headOf
+  entries-whole q = rw (eq-eqb _ none (sym (ap (λ (k : Head). k .scope) eh) ∙ q)) refl
 
   -- the lesser of W and what is around the loop
-  pub entries-loop : w ≢ none → entries (caseOf f trailer) (factAt f p) ≡ atMost (loopAt f trailer w .visits) (outer (caseOf f trailer) (loopAt f trailer w))
-  unfolding entries entriesOf caseOf
-  entries-loop n = rw (← ew, ne-eqb w none n) refl
+  pub entries-loop :
+      (n : ℕ) → h .scope ≢ none → n ≡ outer (caseOf f trailer) (loopAt f trailer (h .scope)) → atMost (h .range .visits) n ≡ entries (caseOf f trailer) (factAt f p)
+  unfolding entries entriesOf headOf rangeOf caseOf
+  entries-loop n q en = rw (en, eh, ne-eqb (factAt f p .scope) none (λ z. q (ap (λ (k : Head). k .scope) eh ∙ z))) refl

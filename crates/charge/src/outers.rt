@@ -1,14 +1,15 @@
 // E: "its entries the lesser of W and that outer number", the header visits of the next loop out: its header's count, and 1 where there is none.
 ghost use mathlib.Core.Path.{_≡_};
 ghost use mathlib.Core.Logic.{_≢_};
-ghost use Prim.Native.Nat.{_<_, _≤_};
+ghost use Prim.Native.Nat.{_<_};
 ghost use Rattle.paper.specs.Files as Files;
 ghost use Rattle.paper.specs.Graphs as Graphs;
 ghost use Rattle.paper.proofs.Meaning.{SoundGraph};
 ghost use Rattle.paper.specs.Known.{Laid};
-ghost use Rattle.paper.specs.Ceilings as Ceilings;
 ghost use Rattle.charge.specs.NextOut as NextOut;
 ghost use Rattle.charge.specs.ReadyFile.{Ready};
+ghost use Rattle.charge.specs.Tables as Tables;
+use crate::heads::Head;
 use crate::sizes::LOOPS;
 use paper::Trailer;
 
@@ -53,7 +54,6 @@ fn outer_of(file: &[u8], trailer: Trailer, counts: &[u32], outers: &[u16; LOOPS]
     requires { ⌜ NextOut.Outers (Files.caseOf (now file) trailer) (trailer .loops) (now outers) ⌝ }
     requires { ⌜ w < trailer .loops ⌝ }
     ensures { λ r. ⌜ r ≡ Graphs.outer (Files.caseOf (now (file .entry)) trailer) (Files.loopAt (now (file .entry)) trailer w) ⌝ }
-    ensures { λ r. ⌜ r ≤ Ceilings.mostCount ⌝ }
 {
     let c = outers[w as usize];
     if c == 0 {
@@ -63,25 +63,24 @@ fn outer_of(file: &[u8], trailer: Trailer, counts: &[u32], outers: &[u16; LOOPS]
     counts[header] as u64
 }
 
-// E of the fact at p, whose scope is w: "the whole graph with one entry".
+// E of the fact at p, of which h was read: "the whole graph with one entry".
 pub fn entries_of(
     file: &[u8],
     trailer: Trailer,
     counts: &[u32],
     outers: &[u16; LOOPS],
     p: usize,
-    w: u16,
+    h: Head,
 ) -> u64
     requires { ⌜ Ready (now file) trailer (now counts) ⌝ }
     requires { ⌜ NextOut.Outers (Files.caseOf (now file) trailer) (trailer .loops) (now outers) ⌝ }
-    requires { ⌜ w ≡ Files.factAt (now file) p .scope ⌝ }
-    requires { ⌜ (w ≢ 65535 → w < trailer .loops) ⌝ }
+    requires { ⌜ h ≡ Tables.headOf (now file) trailer p ⌝ }
+    requires { ⌜ (h .scope ≢ 65535 → h .scope < trailer .loops) ⌝ }
     ensures { λ r. ⌜ r ≡ Graphs.entries (Files.caseOf (now (file .entry)) trailer) (Files.factAt (now (file .entry)) p) ⌝ }
-    ensures { λ r. ⌜ r ≤ Ceilings.mostCount ⌝ }
 {
-    if w == 65535 {
+    if h.scope == 65535 {
         return 1;
     }
-    let n = outer_of(file, trailer, counts, outers, w);
-    paper::at_most(layout::loop_at(file, trailer, w).visits, n)
+    let n = outer_of(file, trailer, counts, outers, h.scope);
+    paper::at_most(h.range.visits, n)
 }

@@ -1,24 +1,23 @@
 -- The table has the next loop out, and the counts have its header's.
+use Prim.Native.Nat.{_<_}
 use native.Mathlib.Omega.{arith}
-use Prim.Native.Nat.{_<_, _≤_}
 use mathlib.Core.Path.{_≡_}
 use borrow.Author.Needs.{needs}
 use lib.ListN.{getD}
 use Rattle.paper.specs.Files.{loopAt, caseOf}
 use Rattle.paper.specs.Graphs.{outer}
-use Rattle.paper.specs.Ceilings.{mostCount}
 use Rattle.charge.proofs.Entries.{outer-none, next-low, next-header}
 use Rattle.charge.proofs.outers.outer_of.Statement.{statement}
 use Rattle.charge.proofs.outers.outer_of.Tie as tie
 
--- where the table is read
+-- where the next loop out is looked up
 abbrev start : tie.After-c → tie.Start
 start c = c .before .before .before
 
 returns : tie.Need-returns
 returns c =
     let p = start (c .before) .pre in
-    (outer-none _ _ _ _ (p .0) (p .1 .0) _ (p .1 .1) (c .if1 .taken), omega arith)
+    outer-none _ _ _ _ (p .0) (p .1 .0) _ (p .1 .1) (c .if1 .taken)
 
 loop-at-requires : tie.Need-loop-at-requires
 loop-at-requires c κs =
@@ -27,11 +26,12 @@ loop-at-requires c κs =
 
 header : (c : tie.After-loop-at) →
     let a = start (c .before .before) .args in
-    let n = getD (a .counts .now) (c .loop-at .result .first) 0 in
-    (c .loop-at .result .first < a .trailer .nodes) × ((n ≡ outer (caseOf (a .file .now) (a .trailer)) (loopAt (a .file .now) (a .trailer) (a .w))) × (n ≤ mostCount))
+    let l = c .loop-at .result in
+    (l .first < a .trailer .nodes) × (getD (a .counts .now) (l .first) 0 ≡ outer (caseOf (a .file .now) (a .trailer)) (loopAt (a .file .now) (a .trailer) (a .w)))
 header c =
-    let p = start (c .before .before) .pre in
-    next-header _ _ _ _ (p .0) (p .1 .0) _ (p .1 .1) (c .before .if1 .left) _ (c .loop-at .ensures)
+    let e = c .before in
+    let p = start (e .before) .pre in
+    next-header _ _ _ _ (p .0) (p .1 .0) _ (p .1 .1) (e .if1 .left) _ (c .loop-at .ensures)
 
 -- where the count is read
 abbrev found : tie.After-shared-slice-known3 → tie.After-loop-at
@@ -48,5 +48,5 @@ outer-of-spec =
     loop-at-requires
     (λ c. search needs) (λ c. search needs)
     (λ c. omega (arith, header (found c) .0, start (found c .before .before) .pre .0 .counted .room))
-    (λ c. omega (arith, header (found c) .1 .1))
+    (λ c. omega (arith, found c .before .before .before .shared-slice-known2 .given (found c .loop-at .result .first)))
     (λ c. header (found c) .1))
