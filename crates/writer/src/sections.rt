@@ -3,40 +3,56 @@ ghost use mathlib.Core.Path.{_≡_};
 ghost use Prim.Native.Nat.{_+_, _*_, _≤_, _<_};
 ghost use lib.ListN.{length};
 ghost use Rattle.paper.specs.Lists.{each};
+ghost use Rattle.paper.specs.Records.{loopSize, visitsField};
 ghost use Rattle.paper.specs.Writing as Writing;
 ghost use Rattle.puts.specs.Put.{Put};
-ghost use Rattle.writer.specs.Room.{ofLoops, ofFacts, NarrowLoops, FactsFit, offsetBytes, markBytes};
+ghost use Rattle.writer.specs.Room.{ofLoops, ofFacts, NarrowLoops, frontBytes, FactsFit, offsetBytes, markBytes};
 use crate::bytes::put_byte;
 use crate::bytes::put_four;
 use crate::bytes::put_long;
 use crate::bytes::put_rows;
 use crate::bytes::put_word;
 use paper::Trailer;
+use paper::WITHOUT_W;
 
-// "loops (16-bit first, 16-bit last, 32-bit B)": loop j of the list.
-fn put_loop(out: &mut [u8], at: usize, loops: &[u32], j: usize) -> usize
-    requires { ⌜ at + 8 ≤ length (now out) ⌝ }
-    requires { ⌜ 3 * j + 3 ≤ length (now loops) ⌝ }
-    requires { ⌜ NarrowLoops (now loops) ⌝ }
-    ensures { λ r. ⌜ Put (now (out .entry)) at (Writing.loopBytes (Writing.loopIn (ofLoops (now (loops .entry))) j)) r (now (out .exit)) ⌝ }
-    ensures { λ r. ⌜ r ≡ at + 8 ⌝ }
+// "loops (16-bit first, 16-bit last, 32-bit B)": loop j of the list, but for W.
+fn put_front(out: &mut [u8], at: usize, trailer: Trailer, loops: &[u32], j: u16) -> usize
+    requires { ⌜ at + visitsField ≤ length (now out) ⌝ }
+    requires { ⌜ j < trailer .loops ⌝ }
+    requires { ⌜ NarrowLoops trailer (now loops) ⌝ }
+    ensures { λ r. ⌜ Put (now (out .entry)) at (frontBytes trailer (now (loops .entry)) j) r (now (out .exit)) ⌝ }
+    ensures { λ r. ⌜ r ≡ at + visitsField ⌝ }
 {
-    let last = put_word(out, at, loops[3 * j] as u16);
-    let bound = put_word(out, last, loops[3 * j + 1] as u16);
-    put_long(out, bound, loops[3 * j + 2])
+    let last = put_word(out, at, lists::loop_number(trailer, loops, j, 0) as u16);
+    let bound = put_word(out, last, lists::loop_number(trailer, loops, j, 1) as u16);
+    put_long(out, bound, lists::loop_number(trailer, loops, j, 2))
 }
 
-pub fn put_loops(out: &mut [u8], at: usize, loops: &[u32], n: usize) -> usize
-    requires { ⌜ at + 8 * n ≤ length (now out) ⌝ }
-    requires { ⌜ 3 * n ≤ length (now loops) ⌝ }
-    requires { ⌜ NarrowLoops (now loops) ⌝ }
-    ensures { λ r. ⌜ Put (now (out .entry)) at (each (λ j. Writing.loopBytes (Writing.loopIn (ofLoops (now (loops .entry))) j)) n) r (now (out .exit)) ⌝ }
-    ensures { λ r. ⌜ r ≡ at + 8 * n ⌝ }
+// Loop j, in version 2 with W.
+fn put_loop(out: &mut [u8], at: usize, trailer: Trailer, loops: &[u32], j: u16) -> usize
+    requires { ⌜ at + loopSize (trailer .version) ≤ length (now out) ⌝ }
+    requires { ⌜ j < trailer .loops ⌝ }
+    requires { ⌜ NarrowLoops trailer (now loops) ⌝ }
+    ensures { λ r. ⌜ Put (now (out .entry)) at (Writing.loopBytes (trailer .version) (Writing.loopIn (ofLoops (trailer .version) (now (loops .entry))) j)) r (now (out .exit)) ⌝ }
+    ensures { λ r. ⌜ r ≡ at + loopSize (trailer .version) ⌝ }
+{
+    let visits = put_front(out, at, trailer, loops, j);
+    if trailer.version == WITHOUT_W {
+        return visits;
+    }
+    put_long(out, visits, lists::visits_of(trailer, loops, j))
+}
+
+pub fn put_loops(out: &mut [u8], at: usize, trailer: Trailer, loops: &[u32]) -> usize
+    requires { ⌜ at + loopSize (trailer .version) * trailer .loops ≤ length (now out) ⌝ }
+    requires { ⌜ NarrowLoops trailer (now loops) ⌝ }
+    ensures { λ r. ⌜ Put (now (out .entry)) at (each (λ j. Writing.loopBytes (trailer .version) (Writing.loopIn (ofLoops (trailer .version) (now (loops .entry))) j)) (trailer .loops)) r (now (out .exit)) ⌝ }
+    ensures { λ r. ⌜ r ≡ at + loopSize (trailer .version) * trailer .loops ⌝ }
 {
     let mut to = at;
-    let mut j = 0;
-    while j < n {
-        to = put_loop(out, to, loops, j);
+    let mut j: u16 = 0;
+    while j < trailer.loops {
+        to = put_loop(out, to, trailer, loops, j);
         j += 1;
     }
     to
@@ -92,7 +108,7 @@ fn put_offsets(out: &mut [u8], at: usize, trailer: Trailer) -> usize
     put_long(out, facts, layout::facts_at(trailer) as u32)
 }
 
-// "policy (0 LRU, 1 FIFO, 2 NMRU), ways, sets, version 1, one byte each; then the four letters QMBT"
+// "policy (0 LRU, 1 FIFO, 2 NMRU), ways, sets, version …, one byte each; then the four letters QMBT"
 fn put_marks(out: &mut [u8], at: usize, trailer: Trailer) -> usize
     requires { ⌜ at + 8 ≤ length (now out) ⌝ }
     ensures { λ r. ⌜ Put (now (out .entry)) at (markBytes trailer) r (now (out .exit)) ⌝ }
@@ -101,7 +117,7 @@ fn put_marks(out: &mut [u8], at: usize, trailer: Trailer) -> usize
     let ways = put_byte(out, at, trailer.policy);
     let sets = put_byte(out, ways, trailer.ways);
     let version = put_byte(out, sets, trailer.sets);
-    let letters = put_byte(out, version, 1);
+    let letters = put_byte(out, version, trailer.version);
     let second = put_byte(out, letters, b'Q');
     let third = put_byte(out, second, b'M');
     let fourth = put_byte(out, third, b'B');
