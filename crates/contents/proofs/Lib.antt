@@ -10,6 +10,5 @@ pub mod Written
 pub mod Rereading
 pub mod Rewriting
 pub mod Accepted
-pub mod FileBytes
 pub mod WriteLaws
 pub mod WriteNumbers

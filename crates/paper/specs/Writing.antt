@@ -2,7 +2,7 @@
 use Prim.Native.Nat.{ℕ, zero, suc, _+_, _*_, _/_, _%_, _≤_, _<_}
 use mathlib.Core.Path.{_≡_}
 use mathlib.Core.Bool.{Bool, not, _||_}
-use mathlib.Core.List.{List, [], _∷_, _++_, List·Memᴰ}
+use mathlib.Core.List.{List, [], _∷_, _++_}
 use lib.Dec.{eqb, ltb}
 use lib.ListN.{length, getD, take, drop}
 use Rattle.paper.specs.declared.Loop.{Loop}
@@ -52,18 +52,6 @@ perRow = length Records.rowFields
 -- row r of a list of rows
 abbrev pub rowFrom : List ℕ → ℕ → Row
 rowFrom rows r = record { number = getD rows (perRow * r) 0; slot = λ k. getD rows (perRow * r + 1 + k) 0 }
-
--- What the types of the lent lists say: blocks, node numbers, loop numbers, limits and slots are 16 bits wide, and a W 32. (Of version and cache, and of the other numbers of a loop, rules 2, 3 and 7
--- say more.)
-abbrev pub Below : ℕ → List ℕ → Type 0
-Below n l = (x : ℕ) → List·Memᴰ x l → x < n
-
-pub record InWidths (c : FileContent) : Type 0 where
-  pub nodes : Below 65536 (c .nodes)
-  pub edges : Below 65536 (c .edges)
-  pub loops : Below 4294967296 (c .loops)
-  pub heads : Below 65536 (c .heads)
-  pub rows : Below 65536 (c .rows)
 
 -- How many of each there are: what the trailer will say.
 unfoldable pub trailerIn : FileContent → Trailer
@@ -272,9 +260,7 @@ outAfter c out (Verdicts.Refused r) = out
 -- "What it writes passes them and reads back as the same lists"
 abbrev pub ReadsBack : FileContent → ℕ → Type 0
 ReadsBack c room =
-    InWidths c
-    → writeVerdict c room ≡ Verdicts.Accepted
-    → (layoutVerdict (fileOf c) ≡ Verdicts.Accepted) × (contentOf (fileOf c) ≡ c) × (length (fileOf c) ≤ room) × Bytes (fileOf c)
+    writeVerdict c room ≡ Verdicts.Accepted → (layoutVerdict (fileOf c) ≡ Verdicts.Accepted) × (contentOf (fileOf c) ≡ c) × (length (fileOf c) ≤ room)
 
 -- "and any file that passes them comes out again byte for byte when its content is written, so one content has one file"
 abbrev pub WritesBack : List ℕ → Type 0

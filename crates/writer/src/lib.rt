@@ -4,6 +4,7 @@ ghost use Prim.Native.Nat.{_+_, _*_, _≤_};
 ghost use lib.Dec.{ltb};
 ghost use lib.ListN.{length};
 ghost use Rattle.paper.specs.Files.{factsAt};
+ghost use Rattle.paper.specs.Records.{bits16, headSize, trailerSize};
 ghost use Rattle.paper.specs.Rules.{rule};
 ghost use Rattle.paper.specs.Verdicts as Verdicts;
 ghost use Rattle.paper.specs.Writing as Writing;
@@ -38,7 +39,7 @@ fn put_file(
 ) -> usize
     requires { ⌜ Listed (content trailer (now nodes) (now edges) (now loops) (now heads) (now rows)) trailer ⌝ }
     requires { ⌜ Facts trailer (now loops) (now heads) (now rows) ⌝ }
-    requires { ⌜ factsAt trailer + 6 * trailer .facts + 2 * length (now rows) + 32 ≤ length (now out) ⌝ }
+    requires { ⌜ factsAt trailer + headSize * trailer .facts + bits16 * length (now rows) + trailerSize ≤ length (now out) ⌝ }
     ensures { λ r. ⌜ Put (now (out .entry)) 0 (Writing.fileOf (content trailer (now (nodes .entry)) (now (edges .entry)) (now (loops .entry)) (now (heads .entry)) (now (rows .entry)))) r (now (out .exit)) ⌝ }
 {
     let after_nodes = put_words(out, 0, nodes);

@@ -3,7 +3,8 @@ ghost use mathlib.Core.Path.{_≡_};
 ghost use Prim.Native.Nat.{_+_, _*_, _≤_, _<_};
 ghost use lib.ListN.{length};
 ghost use Rattle.paper.specs.Lists.{each};
-ghost use Rattle.paper.specs.Records.{loopSize, visitsField};
+ghost use Rattle.paper.specs.Records.{bits16, headSize, loopSize, rowSize, trailerSize, visitsField};
+ghost use Rattle.paper.specs.Writing.{perHead, perRow};
 ghost use Rattle.paper.specs.Writing as Writing;
 ghost use Rattle.puts.specs.Put.{Put};
 ghost use Rattle.writer.specs.Room.{ofLoops, ofFacts, NarrowLoops, frontBytes, FactsFit, offsetBytes, markBytes};
@@ -66,12 +67,12 @@ fn wide(x: u16) -> usize
 
 // "facts (16-bit loop number or 65,535 for the whole graph, 16-bit block, 16-bit l, then 16 bytes a row)": fact i, whose n rows come after r others.
 fn put_fact(out: &mut [u8], at: usize, heads: &[u16], rows: &[u16], i: usize, r: usize) -> usize
-    requires { ⌜ 4 * i + 4 ≤ length (now heads) ⌝ }
+    requires { ⌜ perHead * i + perHead ≤ length (now heads) ⌝ }
     requires { ⌜ r ≡ Writing.rowsBefore (ofFacts (now heads) (now rows)) i ⌝ }
-    requires { ⌜ 8 * (r + Writing.rowsNamed (ofFacts (now heads) (now rows)) i) ≤ length (now rows) ⌝ }
-    requires { ⌜ at + 6 + 16 * Writing.rowsNamed (ofFacts (now heads) (now rows)) i ≤ length (now out) ⌝ }
+    requires { ⌜ perRow * (r + Writing.rowsNamed (ofFacts (now heads) (now rows)) i) ≤ length (now rows) ⌝ }
+    requires { ⌜ at + headSize + rowSize * Writing.rowsNamed (ofFacts (now heads) (now rows)) i ≤ length (now out) ⌝ }
     ensures { λ to. ⌜ Put (now (out .entry)) at (Writing.factBytes (ofFacts (now (heads .entry)) (now (rows .entry))) i) to (now (out .exit)) ⌝ }
-    ensures { λ to. ⌜ to ≡ at + 6 + 16 * Writing.rowsNamed (ofFacts (now (heads .entry)) (now (rows .entry))) i ⌝ }
+    ensures { λ to. ⌜ to ≡ at + headSize + rowSize * Writing.rowsNamed (ofFacts (now (heads .entry)) (now (rows .entry))) i ⌝ }
 {
     let block = put_word(out, at, heads[4 * i]);
     let limit = put_word(out, block, heads[4 * i + 1]);
@@ -81,9 +82,9 @@ fn put_fact(out: &mut [u8], at: usize, heads: &[u16], rows: &[u16], i: usize, r:
 
 pub fn put_facts(out: &mut [u8], at: usize, heads: &[u16], rows: &[u16], n: usize) -> usize
     requires { ⌜ FactsFit (now heads) (now rows) n ⌝ }
-    requires { ⌜ at + 6 * n + 2 * length (now rows) ≤ length (now out) ⌝ }
+    requires { ⌜ at + headSize * n + bits16 * length (now rows) ≤ length (now out) ⌝ }
     ensures { λ r. ⌜ Put (now (out .entry)) at (each (Writing.factBytes (ofFacts (now (heads .entry)) (now (rows .entry)))) n) r (now (out .exit)) ⌝ }
-    ensures { λ r. ⌜ r ≡ at + 6 * n + 2 * length (now (rows .entry)) ⌝ }
+    ensures { λ r. ⌜ r ≡ at + headSize * n + bits16 * length (now (rows .entry)) ⌝ }
 {
     let mut to = at;
     let mut r: usize = 0;
@@ -126,9 +127,9 @@ fn put_marks(out: &mut [u8], at: usize, trailer: Trailer) -> usize
 
 // "The last 32 bytes point back."
 pub fn put_trailer(out: &mut [u8], at: usize, trailer: Trailer) -> usize
-    requires { ⌜ at + 32 ≤ length (now out) ⌝ }
+    requires { ⌜ at + trailerSize ≤ length (now out) ⌝ }
     ensures { λ r. ⌜ Put (now (out .entry)) at (Writing.trailerBytes trailer) r (now (out .exit)) ⌝ }
-    ensures { λ r. ⌜ r ≡ at + 32 ⌝ }
+    ensures { λ r. ⌜ r ≡ at + trailerSize ⌝ }
 {
     let numbers = put_offsets(out, at, trailer);
     let marks = put_four(
