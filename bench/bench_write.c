@@ -11,8 +11,9 @@ enum { NODES = 1024, EDGES = 4096, LOOPS = 64, FACTS = 256, WHOLE = 65535, TRAIL
 
 static uint8_t file[5000000], out[5000000];
 static uint16_t nodes[NODES], edges[2 * EDGES], heads[4 * FACTS], rows[8 * NODES * FACTS];
-static uint32_t loops[3 * LOOPS];
+static uint32_t loops[4 * LOOPS];
 static size_t node_count, edge_count, loop_count, fact_count, row_count;
+static unsigned loop_numbers = 3; /* in version 2 four */
 
 static unsigned u16_at(size_t at) { return file[at] | (unsigned)file[at + 1] << 8; }
 
@@ -26,7 +27,8 @@ static size_t size_of(unsigned scope)
 {
     if (scope == WHOLE)
         return node_count;
-    return scope < loop_count && loops[3 * scope] <= loops[3 * scope + 1] ? loops[3 * scope + 1] - loops[3 * scope] + 1 : 0;
+    const uint32_t *loop = loops + loop_numbers * (scope < loop_count ? scope : 0);
+    return scope < loop_count && loop[0] <= loop[1] ? loop[1] - loop[0] + 1 : 0;
 }
 
 /* Facts as far as they go: rows that are cut short are fewer than the scope has nodes. */
@@ -42,22 +44,31 @@ static void read_facts(size_t at, size_t end)
     }
 }
 
+static void read_loops(size_t at, size_t count)
+{
+    for (size_t i = 0; i < count; i++, at += 4 * loop_numbers - 4) {
+        uint32_t *loop = loops + loop_numbers * i;
+        loop[0] = u16_at(at), loop[1] = u16_at(at + 2);
+        for (unsigned j = 2; j < loop_numbers; j++)
+            loop[j] = u16_at(at + 4 * j - 4) | (uint32_t)u16_at(at + 4 * j - 2) << 16;
+    }
+}
+
 /* A file whose sections do not fit in it has no lists. */
 static void read_lists(size_t length)
 {
     if (length < TRAILER)
         return;
     size_t end = length - TRAILER, n = u16_at(end + 16), e = u16_at(end + 18), l = u16_at(end + 20), f = u16_at(end + 22);
-    if (n > NODES || e > EDGES || l > LOOPS || f > FACTS || 2 * n + 4 * e + 8 * l > end)
+    loop_numbers = file[end + 27] == 2 ? 4 : 3;
+    size_t facts_at = 2 * n + 4 * e + (4 * loop_numbers - 4) * l;
+    if (n > NODES || e > EDGES || l > LOOPS || f > FACTS || facts_at > end)
         return;
     node_count = n, edge_count = e, loop_count = l, fact_count = f;
     read_list(nodes, 0, n);
     read_list(edges, 2 * n, 2 * e);
-    for (size_t i = 0, at = 2 * n + 4 * e; i < l; i++, at += 8) {
-        loops[3 * i] = u16_at(at), loops[3 * i + 1] = u16_at(at + 2);
-        loops[3 * i + 2] = u16_at(at + 4) | (uint32_t)u16_at(at + 6) << 16;
-    }
-    read_facts(2 * n + 4 * e + 8 * l, end);
+    read_loops(2 * n + 4 * e, l);
+    read_facts(facts_at, end);
 }
 
 int main(int argc, char **argv)
@@ -71,11 +82,11 @@ int main(int argc, char **argv)
     int again = strcmp(argv[1], "again") == 0;
     read_lists(length);
     if (strcmp(argv[1], "plain") == 0)
-        refused = plain_write(cache[0], cache[1], cache[2], nodes, node_count, edges, 2 * edge_count, loops, 3 * loop_count, heads, 4 * fact_count,
-                              rows, 8 * row_count, out, sizeof out, &written, &place, &second);
+        refused = plain_write(cache[3], cache[0], cache[1], cache[2], nodes, node_count, edges, 2 * edge_count, loops, loop_numbers * loop_count,
+                              heads, 4 * fact_count, rows, 8 * row_count, out, sizeof out, &written, &place, &second);
     else if (again || strcmp(argv[1], "proved") == 0)
-        refused = bolgverk_write(cache[0], cache[1], cache[2], nodes, node_count, edges, 2 * edge_count, loops, 3 * loop_count, heads, 4 * fact_count,
-                                 rows, 8 * row_count, out, sizeof out, &written, &place, &second);
+        refused = bolgverk_write(cache[3], cache[0], cache[1], cache[2], nodes, node_count, edges, 2 * edge_count, loops, loop_numbers * loop_count,
+                                 heads, 4 * fact_count, rows, 8 * row_count, out, sizeof out, &written, &place, &second);
     if (again)
         return fwrite(out, 1, written, stdout) == written ? refused : 255;
     /* Both sums are taken in every case, so that they can be taken off too. */

@@ -1,7 +1,7 @@
 /* Makes a sound case file for the benchmark: 1,024 nodes, 64 loops three deep, facts with the smallest rows that are evidence.
- * usage: make_case small|large|exact|deep POLICY > FILE
+ * usage: make_case small|large|exact|deep POLICY [VERSION] > FILE      the version is 1, or 2 with W for three loops in four
  *   small   4,096 edges, and facts over loops, as many as fit in 65,536 bytes
- *   large   4,096 edges, and 256 facts over the whole graph: the largest file that can be accepted, 4,214,816 bytes
+ *   large   4,096 edges, and 256 facts over the whole graph: the largest file that can be accepted, 4,214,816 bytes, in version 2 4,215,072
  *   exact   facts over loops, and as many edges as make it 65,536 bytes to the byte
  *   deep    4,096 edges, loops eight deep, and no facts: they are to be found */
 #include <stdint.h>
@@ -26,7 +26,7 @@ struct fact {
     unsigned scope, block;
 };
 
-static unsigned sets, edges;
+static unsigned version = 1, sets, edges;
 static uint16_t block[NODES];
 static struct loop loops[LOOPS];
 static uint8_t has_edge[NODES][NODES];
@@ -66,6 +66,11 @@ static void make_deep_loops(void)
         loops[j] = (struct loop){at + in, at + DEEP_GROUP - 1 - in, 2 + j % DEPTH};
     }
 }
+
+static size_t loop_size(void) { return version == 2 ? 12 : 8; }
+
+/* How often a walk may visit the loop's header in all: no limit, or one that is below B times the outer visits for some loops and above for others. */
+static uint32_t visits(unsigned j) { return j % 4 == 0 ? 4294967295u : 20 * (j + 1) * (j % 4); }
 
 static int inside(unsigned v, unsigned j) { return loops[j].first <= v && v <= loops[j].last; }
 
@@ -286,6 +291,8 @@ static void put_graph(void)
         put(loops[j].first, 2);
         put(loops[j].last, 2);
         put(loops[j].bound, 4);
+        if (version == 2)
+            put(visits(j), 4);
     }
 }
 
@@ -295,21 +302,22 @@ static void put_trailer(unsigned count, unsigned policy)
     put(0, 4);
     put(2 * NODES, 4);
     put(2 * NODES + 4 * edges, 4);
-    put(2 * NODES + 4 * edges + 8 * LOOPS, 4);
+    put(2 * NODES + 4 * edges + (uint32_t)loop_size() * LOOPS, 4);
     for (unsigned i = 0; i < 4; i++)
         put(numbers[i], 2);
     put(policy, 1);
     put(WAYS, 1);
     put(sets, 1);
-    put(1, 1);
+    put(version, 1);
     memcpy(out + written, "QMBT", 4);
     written += 4;
 }
 
 int main(int argc, char **argv)
 {
-    if (argc != 3)
+    if (argc != 3 && argc != 4)
         return 2;
+    version = argc == 4 ? (unsigned)atoi(argv[3]) : 1;
     int large = strcmp(argv[1], "large") == 0, exact = strcmp(argv[1], "exact") == 0, deep = strcmp(argv[1], "deep") == 0;
     sets = large ? 64 : deep ? 16 : 4;
     make_nodes(large || deep ? 1 : 2);
@@ -319,7 +327,7 @@ int main(int argc, char **argv)
         make_loops();
     make_edges();
     list_edges();
-    size_t rest = 2 * NODES + 4 * edges + 8 * LOOPS + TRAILER, total = rest;
+    size_t rest = 2 * NODES + 4 * edges + loop_size() * LOOPS + TRAILER, total = rest;
     unsigned count = deep ? 0 : large ? facts_over_graph() : facts_over_loops(BYTES - rest, exact);
     for (unsigned i = 0; i < count; i++)
         total += size_of(facts[i]);

@@ -7,7 +7,7 @@ enum { NUMBERS = 321, SETS_AT = 1, FACTS_AT = 65 };
 
 struct fact {
     unsigned first, last, block, limit, set;
-    uint64_t entries, visits; /* E and N */
+    uint64_t entries, visits; /* the lesser of E and N, and N */
     const uint8_t *rows;
 };
 
@@ -28,14 +28,14 @@ struct check {
 /* The scope of a fact, and how often it is entered. */
 static void find_scope(const struct check *c, unsigned scope, struct fact *f)
 {
-    static const struct loop none = {.outer = NONE};
+    static const struct loop none = {.outer = NONE, .entries = 1};
     const struct loop *l = scope == WHOLE ? &none : &c->g.loop[scope];
     f->first = l->first;
     f->last = scope == WHOLE ? c->g.nodes - 1 : l->last;
-    f->entries = l->outer == NONE ? 1 : c->g.loop[l->outer].count;
+    f->entries = l->entries;
 }
 
-/* Rule 14, and N: how often the nodes of the scope that fetch b are visited. */
+/* Rule 14, and N: how often the nodes of the scope that fetch b are visited. "every bound uses the lesser of E and N in place of E" */
 static int find_visits(struct check *c, struct fact *f)
 {
     f->visits = 0;
@@ -44,6 +44,7 @@ static int find_visits(struct check *c, struct fact *f)
             f->visits += count_of(&c->g, v);
             c->limit[v] = f->limit;
         }
+    f->entries = f->entries < f->visits ? f->entries : f->visits;
     return f->visits > 0;
 }
 
@@ -176,7 +177,7 @@ static uint64_t fact_bound(const struct check *c, const struct fact *f)
 /* Rules 11 to 19, 24 and 25, and what each fact adds to its set. */
 static unsigned check_facts(struct check *c)
 {
-    size_t at = 2 * c->g.nodes + 4 * c->g.edges + 8 * c->g.loops;
+    size_t at = (size_t)(c->g.facts_at - c->g.file);
     struct fact facts[2];
     for (unsigned i = 0; i < c->g.facts; i++) {
         struct fact *f = &facts[i % 2];

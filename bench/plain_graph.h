@@ -10,17 +10,18 @@ enum { MOST_NODES = 1024, MOST_EDGES = 4096, MOST_LOOPS = 64, MOST_FACTS = 256 }
 enum { TRAILER = 32, FACT_HEAD = 6, ROW = 16, SLOTS = 7 };
 
 static const uint64_t most_count = 4294967295;
+static const uint32_t no_limit = 4294967295; /* W of a loop without one */
 
 struct loop {
     unsigned first, last, outer; /* outer: the next loop out, or NONE */
-    uint64_t count;              /* of a node whose innermost loop this is, or anything above the most */
+    uint64_t entries, visits;    /* of its header, and so of a node whose innermost loop this is; anything above the most where that is too many */
 };
 
 struct graph {
     const uint8_t *file;
     size_t end; /* where the trailer starts */
-    unsigned nodes, edges, loops, facts, policy, ways, sets;
-    const uint8_t *edges_at, *loops_at;
+    unsigned nodes, edges, loops, facts, policy, ways, sets, version, loop_size;
+    const uint8_t *edges_at, *loops_at, *facts_at;
     struct loop loop[MOST_LOOPS];
     uint16_t innermost[MOST_NODES];
     uint64_t place; /* of a refusal */
@@ -45,19 +46,20 @@ static inline unsigned read_trailer(struct graph *g, size_t length)
         return refuse(g, 1, 0);
     g->end = length - TRAILER;
     const uint8_t *t = g->file + g->end;
-    if (memcmp(t + 27, "\1QMBT", 5) != 0)
+    g->policy = t[24], g->ways = t[25], g->sets = t[26], g->version = t[27], g->loop_size = g->version == 2 ? 12 : 8;
+    if (memcmp(t + 28, "QMBT", 4) != 0 || g->version < 1 || g->version > 2)
         return refuse(g, 2, 0);
-    g->policy = t[24], g->ways = t[25], g->sets = t[26];
     if (bad_cache(g->policy, g->ways, g->sets))
         return refuse(g, 3, 0);
     g->nodes = u16_at(t + 16), g->edges = u16_at(t + 18), g->loops = u16_at(t + 20), g->facts = u16_at(t + 22);
     if (g->nodes < 1 || g->nodes > MOST_NODES || g->edges > MOST_EDGES || g->loops > MOST_LOOPS || g->facts > MOST_FACTS)
         return refuse(g, 4, 0);
-    uint32_t edges_at = 2 * g->nodes, loops_at = edges_at + 4 * g->edges, facts_at = loops_at + 8 * g->loops;
+    uint32_t edges_at = 2 * g->nodes, loops_at = edges_at + 4 * g->edges, facts_at = loops_at + g->loop_size * g->loops;
     if (u32_at(t) != 0 || u32_at(t + 4) != edges_at || u32_at(t + 8) != loops_at || u32_at(t + 12) != facts_at || facts_at > g->end)
         return refuse(g, 5, 0);
     g->edges_at = g->file + edges_at;
     g->loops_at = g->file + loops_at;
+    g->facts_at = g->file + facts_at;
     return 0;
 }
 
@@ -73,22 +75,30 @@ static inline unsigned check_order(struct graph *g)
     return 0;
 }
 
+/* "A loop's header visits are the lesser of W and B times the header visits of the next loop out (1 outside all loops); its entries the lesser of W and that
+ * outer number". Visits above the most are held one above it: W may bring them back further in. */
+static inline void count_visits(struct graph *g, struct loop *l, uint32_t bound, uint32_t most)
+{
+    uint64_t outer = l->outer == NONE ? 1 : g->loop[l->outer].visits, all = outer * bound;
+    l->entries = most != no_limit && most < outer ? most : outer;
+    l->visits = most != no_limit && most < all ? most : all > most_count ? most_count + 1 : all;
+}
+
 /* Rule 7, and each loop's next loop out. An earlier loop that reaches this one's first node must hold the whole of it. */
 static inline unsigned read_loops(struct graph *g)
 {
     for (unsigned i = 0; i < g->loops; i++) {
-        const uint8_t *at = g->loops_at + 8 * i;
+        const uint8_t *at = g->loops_at + g->loop_size * i;
         struct loop *l = &g->loop[i];
-        uint32_t bound = u32_at(at + 4);
+        uint32_t bound = u32_at(at + 4), most = g->version == 2 ? u32_at(at + 8) : no_limit;
         l->first = u16_at(at), l->last = u16_at(at + 2), l->outer = i == 0 ? NONE : i - 1;
-        if (l->first > l->last || l->last >= g->nodes || bound < 1 || bound > 1000000 || (i > 0 && l->first <= l[-1].first))
+        if (l->first > l->last || l->last >= g->nodes || bound < 1 || bound > 1000000 || most < 1 || (i > 0 && l->first <= l[-1].first))
             return refuse(g, 7, i);
         while (l->outer != NONE && g->loop[l->outer].last < l->first)
             l->outer = g->loop[l->outer].outer;
         if (l->outer != NONE && g->loop[l->outer].last < l->last)
             return refuse(g, 7, i);
-        uint64_t around = l->outer == NONE ? 1 : g->loop[l->outer].count;
-        l->count = around > most_count ? around : around * bound;
+        count_visits(g, l, bound, most);
     }
     return 0;
 }
@@ -146,7 +156,7 @@ static inline unsigned check_reached(struct graph *g)
 static inline uint64_t count_of(const struct graph *g, unsigned node)
 {
     unsigned l = g->innermost[node];
-    return l == NONE ? 1 : g->loop[l].count;
+    return l == NONE ? 1 : g->loop[l].visits;
 }
 
 /* Rule 10. */

@@ -7,11 +7,11 @@ enum { WHOLE = 65535, MANY = 8, NOT_SINCE = 9 };
 enum { MOST_NODES = 1024, MOST_EDGES = 4096, MOST_LOOPS = 64, MOST_FACTS = 256, MOST_BOUND = 1000000 };
 enum { TRAILER = 32, FACT_HEAD = 6, ROW = 16, SLOTS = 7 };
 
-/* How many numbers a record has in its list. */
-enum { EDGE_NUMBERS = 2, LOOP_NUMBERS = 3, HEAD_NUMBERS = 4, ROW_NUMBERS = 8 };
+/* How many numbers a record has in its list; a loop has four in version 2. */
+enum { EDGE_NUMBERS = 2, HEAD_NUMBERS = 4, ROW_NUMBERS = 8 };
 
 struct content {
-    unsigned policy, ways, sets;
+    unsigned version, policy, ways, sets, loop_numbers;
     const uint16_t *nodes, *edges, *heads, *rows;
     const uint32_t *loops;
     size_t node_count, edge_count, loop_count, fact_count, row_count;
@@ -29,6 +29,7 @@ static unsigned refuse(struct content *c, unsigned number, uint64_t place)
 }
 
 static inline const uint16_t *head_of(const struct content *c, size_t i) { return c->heads + HEAD_NUMBERS * i; }
+static inline const uint32_t *loop_of(const struct content *c, size_t i) { return c->loops + c->loop_numbers * i; }
 
 /* Rule 4: the numbers are in range, the lists are whole, and the rows are those that the heads name. */
 static int numbers_are_wrong(const struct content *c)
@@ -56,9 +57,9 @@ static unsigned check_edges(struct content *c)
 /* An earlier loop that reaches this one's first node must hold the whole of it. */
 static int crosses(const struct content *c, size_t i)
 {
-    const uint32_t *loop = c->loops + LOOP_NUMBERS * i;
+    const uint32_t *loop = loop_of(c, i);
     for (size_t j = 0; j < i; j++) {
-        uint32_t last = c->loops[LOOP_NUMBERS * j + 1];
+        uint32_t last = loop_of(c, j)[1];
         if (loop[0] <= last && last < loop[1])
             return 1;
     }
@@ -69,9 +70,9 @@ static int crosses(const struct content *c, size_t i)
 static unsigned check_loops(struct content *c)
 {
     for (size_t i = 0; i < c->loop_count; i++) {
-        const uint32_t *loop = c->loops + LOOP_NUMBERS * i;
-        int after = i == 0 || loop[0] > loop[-LOOP_NUMBERS];
-        if (loop[0] > loop[1] || loop[1] >= c->node_count || loop[2] < 1 || loop[2] > MOST_BOUND || !after || crosses(c, i))
+        const uint32_t *loop = loop_of(c, i);
+        int after = i == 0 || loop[0] > loop_of(c, i - 1)[0], limited = c->version == 1 || loop[3] > 0;
+        if (loop[0] > loop[1] || loop[1] >= c->node_count || loop[2] < 1 || loop[2] > MOST_BOUND || !limited || !after || crosses(c, i))
             return refuse(c, 7, i);
     }
     return 0;
@@ -79,7 +80,7 @@ static unsigned check_loops(struct content *c)
 
 static struct scope scope_of(const struct content *c, const uint16_t *head)
 {
-    const uint32_t *loop = c->loops + LOOP_NUMBERS * head[0];
+    const uint32_t *loop = loop_of(c, head[0] == WHOLE ? 0 : head[0]);
     return head[0] == WHOLE ? (struct scope){0, (unsigned)c->node_count - 1} : (struct scope){loop[0], loop[1]};
 }
 
@@ -152,8 +153,10 @@ static uint8_t *put_list(uint8_t *restrict at, const uint16_t *restrict list, si
 static uint8_t *put_loops(uint8_t *at, const struct content *c)
 {
     for (size_t i = 0; i < c->loop_count; i++) {
-        const uint32_t *loop = c->loops + LOOP_NUMBERS * i;
+        const uint32_t *loop = loop_of(c, i);
         at = put(put(put(at, loop[0], 2), loop[1], 2), loop[2], 4);
+        if (c->version == 2)
+            at = put(at, loop[3], 4);
     }
     return at;
 }
@@ -176,7 +179,7 @@ static void put_trailer(uint8_t *at, const struct content *c, const uint32_t off
         at = put(at, offsets[i], 4);
     for (unsigned i = 0; i < 4; i++)
         at = put(at, (uint32_t)numbers[i], 2);
-    at = put(put(put(put(at, c->policy, 1), c->ways, 1), c->sets, 1), 1, 1);
+    at = put(put(put(put(at, c->policy, 1), c->ways, 1), c->sets, 1), c->version, 1);
     memcpy(at, "QMBT", 4);
 }
 
@@ -188,20 +191,21 @@ static void put_file(uint8_t *out, const struct content *c)
     put_trailer(put_facts(facts, c), c, (uint32_t[4]){0, (uint32_t)(edges - out), (uint32_t)(loops - out), (uint32_t)(facts - out)});
 }
 
-uint8_t plain_write(uint8_t policy, uint8_t ways, uint8_t sets, const uint16_t *nodes, size_t nodes_length, const uint16_t *edges,
-                    size_t edges_length, const uint32_t *loops, size_t loops_length, const uint16_t *heads, size_t heads_length,
-                    const uint16_t *rows, size_t rows_length, uint8_t *out, size_t out_length, uint64_t *length, uint64_t *place,
-                    uint64_t *second)
+uint8_t plain_write(uint8_t version, uint8_t policy, uint8_t ways, uint8_t sets, const uint16_t *nodes, size_t nodes_length,
+                    const uint16_t *edges, size_t edges_length, const uint32_t *loops, size_t loops_length, const uint16_t *heads,
+                    size_t heads_length, const uint16_t *rows, size_t rows_length, uint8_t *out, size_t out_length, uint64_t *length,
+                    uint64_t *place, uint64_t *second)
 {
-    struct content c = {policy, ways, sets, nodes, edges, heads, rows, loops, nodes_length, edges_length / EDGE_NUMBERS,
-                        loops_length / LOOP_NUMBERS, heads_length / HEAD_NUMBERS, rows_length / ROW_NUMBERS, 0, 0};
-    int whole = edges_length % EDGE_NUMBERS == 0 && loops_length % LOOP_NUMBERS == 0 && heads_length % HEAD_NUMBERS == 0 && rows_length % ROW_NUMBERS == 0;
-    unsigned number = bad_cache(policy, ways, sets) ? 3 : !whole || numbers_are_wrong(&c) ? 4 : check_edges(&c);
+    unsigned loop_numbers = version == 2 ? 4 : 3, loop_size = version == 2 ? 12 : 8;
+    struct content c = {version, policy, ways, sets, loop_numbers, nodes, edges, heads, rows, loops, nodes_length, edges_length / EDGE_NUMBERS,
+                        loops_length / loop_numbers, heads_length / HEAD_NUMBERS, rows_length / ROW_NUMBERS, 0, 0};
+    int whole = edges_length % EDGE_NUMBERS == 0 && loops_length % loop_numbers == 0 && heads_length % HEAD_NUMBERS == 0 && rows_length % ROW_NUMBERS == 0;
+    unsigned number = version < 1 || version > 2 ? 2 : bad_cache(policy, ways, sets) ? 3 : !whole || numbers_are_wrong(&c) ? 4 : check_edges(&c);
     if (number == 0)
         number = check_loops(&c);
     if (number == 0)
         number = check_facts(&c);
-    size_t bytes = 2 * c.node_count + 4 * c.edge_count + 8 * c.loop_count + FACT_HEAD * c.fact_count + ROW * c.row_count + TRAILER;
+    size_t bytes = 2 * c.node_count + 4 * c.edge_count + loop_size * c.loop_count + FACT_HEAD * c.fact_count + ROW * c.row_count + TRAILER;
     if (number == 0 && bytes > out_length)
         number = 20;
     if (number == 0) {

@@ -3,7 +3,7 @@
 #include <bolgverk.h>
 #include <stdio.h>
 
-enum { NONE = 65535, FIFO = 1, WAYS = 2, SETS = 4, NODES = 8, EDGES = 9, LOOPS = 2, BLOCKS = 6 };
+enum { NONE = 65535, VERSION = 1, FIFO = 1, WAYS = 2, SETS = 4, NODES = 8, EDGES = 9, LOOPS = 2, BLOCKS = 6 };
 
 static const uint16_t nodes[NODES] = {NONE, 4, 8, 5, 9, 13, 7, 4};
 static const uint16_t edges[2 * EDGES] = {0, 1, 1, 2, 2, 3, 3, 4, 4, 3, 4, 5, 5, 6, 6, 1, 6, 7};
@@ -18,7 +18,7 @@ static uint8_t file[2000];
 static uint64_t write_file(void)
 {
     uint64_t length = 0, place, second;
-    uint8_t refused = bolgverk_write(FIFO, WAYS, SETS, nodes, NODES, edges, 2 * EDGES, loops, 3 * LOOPS, heads, 4 * facts, rows, 8 * row_count,
+    uint8_t refused = bolgverk_write(VERSION, FIFO, WAYS, SETS, nodes, NODES, edges, 2 * EDGES, loops, 3 * LOOPS, heads, 4 * facts, rows, 8 * row_count,
                                      file, sizeof file, &length, &place, &second);
     printf("write: refused %u, %lu bytes, %lu facts\n", refused, length, facts);
     return length;

@@ -3,7 +3,7 @@
 #include <bolgverk.h>
 #include <stdio.h>
 
-enum { NONE = 65535, FIFO = 1, WAYS = 2, SETS = 1, NODES = 4, EDGES = 4, LOOPS = 1, FACTS = 2, ROWS = 4 };
+enum { NONE = 65535, VERSION = 1, FIFO = 1, WAYS = 2, SETS = 1, NODES = 4, EDGES = 4, LOOPS = 1, FACTS = 2, ROWS = 4 };
 
 static const uint16_t nodes[NODES] = {NONE, 5, 6, NONE};
 static const uint16_t edges[2 * EDGES] = {0, 1, 1, 2, 2, 1, 2, 3};
@@ -19,7 +19,7 @@ static uint8_t file[1000];
 static uint64_t write_file(const uint16_t heads[4 * FACTS])
 {
     uint64_t length = 0, place, second;
-    uint8_t refused = bolgverk_write(FIFO, WAYS, SETS, nodes, NODES, edges, 2 * EDGES, loops, 3 * LOOPS, heads, 4 * FACTS, rows, 8 * ROWS,
+    uint8_t refused = bolgverk_write(VERSION, FIFO, WAYS, SETS, nodes, NODES, edges, 2 * EDGES, loops, 3 * LOOPS, heads, 4 * FACTS, rows, 8 * ROWS,
                                      file, sizeof file, &length, &place, &second);
     if (refused)
         printf("write: refused %u %lu %lu\n", refused, place, second);

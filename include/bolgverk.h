@@ -35,22 +35,25 @@ uint8_t bolgverk_check(const uint8_t *file, size_t file_length, uint64_t *number
 
 /* Writes a case file from lists. It does not sort: what a layout rule forbids it refuses. What it writes passes those rules and reads back
  * as the same lists; and the lists of a file that passes them make the same file again.
+ *   version                  1, or 2, whose loops have W
  *   policy, ways, sets       the cache
  *   nodes, nodes_length      the block of each node, 65,535 for none; all lists are only read
  *   edges, edges_length      two numbers an edge: from, to
- *   loops, loops_length      three numbers a loop: first node, last node, bound
+ *   loops, loops_length      three numbers a loop: first node, last node, bound; in version 2 a fourth, W: how often a whole walk visits
+ *                            the loop's first node at most, 4,294,967,295 for no such limit
  *   heads, heads_length      four numbers a fact: loop number or 65,535 for the whole graph, block, age limit, how many rows it has
  *   rows, rows_length        eight numbers a row, the number and seven slots with 65,535 in the free ones; the facts' rows one after another
  *   out, out_length          gets the file, if nothing is refused; bytes past it stay as they are
- *   length                   gets the file's length, if nothing is refused: 2 bytes a node, 4 an edge, 8 a loop, 6 a fact, 16 a row, and 32
+ *   length                   gets the file's length, if nothing is refused: 2 bytes a node, 4 an edge, 8 a loop (version 2:
+ *                            12), 6 a fact, 16 a row, and 32
  *   place                    gets the refusal's place, 0 if nothing is refused; always written
  *   second                   gets the refusal's second place: for 16 the node, else 0; always written
- * The lengths count numbers, not records. Returns 0, or the refusal's number: 3, 4 (also where a list is no whole number of records, or the
- * rows are not as many as the heads name), 6, 7, then fact by fact 12, 13, 15, 16, then 20 where out_length is below the file's length. */
-uint8_t bolgverk_write(uint8_t policy, uint8_t ways, uint8_t sets, const uint16_t *nodes, size_t nodes_length, const uint16_t *edges,
-                       size_t edges_length, const uint32_t *loops, size_t loops_length, const uint16_t *heads, size_t heads_length,
-                       const uint16_t *rows, size_t rows_length, uint8_t *out, size_t out_length, uint64_t *length, uint64_t *place,
-                       uint64_t *second);
+ * The lengths count numbers, not records. Returns 0, or the refusal's number: 2, 3, 4 (also where a list is no whole number of records, or
+ * the rows are not as many as the heads name), 6, 7, then fact by fact 12, 13, 15, 16, then 20 where out_length is below the file's length. */
+uint8_t bolgverk_write(uint8_t version, uint8_t policy, uint8_t ways, uint8_t sets, const uint16_t *nodes, size_t nodes_length,
+                       const uint16_t *edges, size_t edges_length, const uint32_t *loops, size_t loops_length, const uint16_t *heads,
+                       size_t heads_length, const uint16_t *rows, size_t rows_length, uint8_t *out, size_t out_length, uint64_t *length,
+                       uint64_t *place, uint64_t *second);
 
 /* Finds the smallest age limit of a block in a scope for which evidence exists, and the evidence: what bolgverk_write takes as a fact's rows and
  * bolgverk_check accepts. The file's own facts, and whatever else stands between its loops and the trailer, are not looked at.
@@ -102,12 +105,12 @@ uint8_t bolgverk_set_of(uint16_t block, uint8_t sets, uint8_t *set);
 /* The refusals, in README.md's words: number, what is wrong, the place, the second place. The least places where it holds are given; of 17, 24 and 25,
  * which stand together before 18, the least edge decides.
  *    1  the file has fewer than 32 bytes                                                                     0              0
- *    2  the trailer's letters or version are wrong                                                           0              0
+ *    2  the trailer's letters or version are wrong, or the writer is handed another version                  0              0
  *    3  policy, ways or sets out of range                                                                    0              0
  *    4  a number of nodes, edges, loops or facts out of range, or a list for the writer that is not whole    0              0
  *    5  an offset is wrong, or the facts would start past the trailer                                        0              0
  *    6  an edge's end is no node, or the edge does not come after the one before it                          edge           0
- *    7  a loop's first node above its last, its last no node, its bound not 1 to 1,000,000, its first node not above that of the loop before it, or it crosses an earlier one loop           0
+ *    7  a loop's first node above its last, its last no node, its bound not 1 to 1,000,000, its W 0, its first node not above that of the loop before it, or it crosses an earlier one loop           0
  *    8  a forward edge enters a loop beside its header                                                       edge           0
  *    9  a backward edge does not lead to the header of a loop around its source                              edge           0
  *   10  a node's count is above 4,294,967,295                                                                node           0

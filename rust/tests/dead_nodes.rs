@@ -6,9 +6,9 @@ use second::random::Random;
 use second::refusal::Refusal;
 
 fn draft(nodes: u16, edges: &[(u16, u16)], loops: &[(u16, u16)]) -> Draft {
-    let loops = loops.iter().map(|&(first, last)| LoopRecord { first, last, bound: 3 }).collect();
+    let loops = loops.iter().map(|&(first, last)| LoopRecord::new(first, last, 3)).collect();
     let lists = Lists { nodes: (0..nodes).collect(), edges: edges.to_vec(), loops };
-    Draft { policy: 0, ways: 2, sets: 1, lists, facts: Vec::new() }
+    Draft { version: 1, policy: 0, ways: 2, sets: 1, lists, facts: Vec::new() }
 }
 
 fn refused(draft: &Draft) -> Option<(u8, u64, u64)> {

@@ -16,8 +16,9 @@ fn looped(ways: u8, nodes: &[u16], loops: &[(u16, u16)]) -> Draft {
     let back = loops.iter().map(|&(first, last)| (last, first));
     let mut edges: Vec<(u16, u16)> = (1..nodes.len() as u16).map(|node| (node - 1, node)).chain(back).collect();
     edges.sort();
-    let loops = loops.iter().map(|&(first, last)| LoopRecord { first, last, bound: 10 }).collect();
-    Draft { policy: 0, ways, sets: 1, lists: Lists { nodes: nodes.to_vec(), edges, loops }, facts: Vec::new() }
+    let loops = loops.iter().map(|&(first, last)| LoopRecord::new(first, last, 10)).collect();
+    let lists = Lists { nodes: nodes.to_vec(), edges, loops };
+    Draft { version: 1, policy: 0, ways, sets: 1, lists, facts: Vec::new() }
 }
 
 fn row(number: u16, blocks: &[u16]) -> RowRecord {

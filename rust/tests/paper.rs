@@ -19,13 +19,14 @@ fn blocks(list: &[u16]) -> [u16; 8] {
 fn listing(policy: u8, bound: u32) -> Draft {
     let fact = |block, rows| FactRecord { scope: 0, block, limit: 2, rows };
     Draft {
+        version: 1,
         policy,
         ways: 2,
         sets: 1,
         lists: Lists {
             nodes: vec![NONE, 5, 6, NONE],
             edges: vec![(0, 1), (1, 2), (2, 1), (2, 3)],
-            loops: vec![LoopRecord { first: 1, last: 2, bound }],
+            loops: vec![LoopRecord::new(1, 2, bound)],
         },
         facts: vec![fact(5, vec![blocks(&[6]), blocks(&[])]), fact(6, vec![blocks(&[]), blocks(&[5])])],
     }
@@ -99,7 +100,7 @@ fn number_8() {
     assert_eq!(refused(&listing(1, 1_000_000).write()), None);
     assert_eq!(refused(&listing(1, 1_000_001).write()), Some(Refusal::new(7, 0)));
     let mut nested = listing(1, 1_000_000);
-    nested.lists.loops.push(LoopRecord { first: 2, last: 2, bound: 1_000_000 });
+    nested.lists.loops.push(LoopRecord::new(2, 2, 1_000_000));
     assert_eq!(refused(&nested.write()), Some(Refusal::new(10, 2)));
     assert_eq!(refused(&listing(1, 10).write()[109..]), Some(Refusal::new(1, 0)));
 }

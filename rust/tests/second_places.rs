@@ -17,9 +17,9 @@ fn looped(blocks: [u16; 5], facts: Vec<FactRecord>) -> Draft {
     let lists = Lists {
         nodes: blocks.to_vec(),
         edges: vec![(0, 1), (1, 2), (2, 1), (2, 3), (3, 1), (3, 4)],
-        loops: vec![LoopRecord { first: 1, last: 3, bound: 10 }],
+        loops: vec![LoopRecord::new(1, 3, 10)],
     };
-    Draft { policy: 0, ways: 4, sets: 1, lists, facts }
+    Draft { version: 1, policy: 0, ways: 4, sets: 1, lists, facts }
 }
 
 fn fact(block: u16, rows: [RowRecord; 3]) -> FactRecord {

@@ -20,6 +20,7 @@ fn row(blocks: &[u16]) -> [u16; 8] {
 /// "A file and its listing", as lists.
 fn paper() -> Content {
     Content {
+        version: 1,
         policy: 1,
         ways: 2,
         sets: 1,

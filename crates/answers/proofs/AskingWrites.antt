@@ -51,12 +51,12 @@ module _ (r : List ℕ) where
       )
 
   pub write-asked : (l : List ℕ) (at : ℕ) {nodes edges loops heads rows after : List ℕ} {a : WriteAnswer} →
-      WritePromise (u8At r 0) (u8At r Places.writeWays) (u8At r Places.writeSets) nodes edges loops heads rows (take (length l - at) (drop at l)) a after →
+      WritePromise (u8At r 0) (u8At r Places.writePolicy) (u8At r Places.writeWays) (u8At r Places.writeSets) nodes edges loops heads rows (take (length l - at) (drop at l)) a after →
       (a ≡ wrote (contentWith r nodes edges loops heads rows) (drop at l) .answer) × (after ≡ wrote (contentWith r nodes edges loops heads rows) (drop at l) .after)
   unfolding wrote
   write-asked l at p =
       let e = part-rest l at in
-      (rw e at (write-answer _ _ _ _ _ _ _ _ _ _ _ p), rw e at (p .bytes))
+      (rw e at (write-answer _ _ _ _ _ _ _ _ _ _ _ _ p), rw e at (p .bytes))
 
   pub wrote-asked : (l : List ℕ) {c : FileContent} {at : ℕ} → c ≡ contentAsked r (drop Places.lentAt l) → at ≡ Places.lentAt + bytesFrom r →
       wrote c (drop at l) ≡ writeAsked r (drop Places.lentAt l)

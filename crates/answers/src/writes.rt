@@ -32,7 +32,7 @@ fn read_lists(
     numbers::read_blocks_at(bytes, after_heads, rows)
 }
 
-// The arguments: policy, ways, sets, how many numbers each list has. The lent bytes stand from a place on.
+// The arguments: version, policy, ways, sets, how many numbers each list has. The lent bytes stand from a place on.
 fn written(
     request: &[u8; places::ARGUMENTS_ROOM],
     bytes: &mut [u8],
@@ -49,6 +49,7 @@ fn written(
 {
     bolgverk::write(
         request[0],
+        request[places::WRITE_POLICY],
         request[places::WRITE_WAYS],
         request[places::WRITE_SETS],
         nodes,

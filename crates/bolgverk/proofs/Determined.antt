@@ -66,14 +66,14 @@ module _ (file lent : List ℕ) where
       let e : r ≡ r′ = check-answer r after p ∙ sym (check-answer r′ after′ q) in
       (e, p .numbers ∙ ap (lentAfter file lent) e ∙ sym (q .numbers))
 
-module _ (policy ways sets : ℕ) (nodes edges loops heads rows lent : List ℕ) where
-  pub write-answer : (r : WriteAnswer) (after : List ℕ) → WritePromise policy ways sets nodes edges loops heads rows lent r after →
-      let c = offered policy ways sets nodes edges loops heads rows in
+module _ (version policy ways sets : ℕ) (nodes edges loops heads rows lent : List ℕ) where
+  pub write-answer : (r : WriteAnswer) (after : List ℕ) → WritePromise version policy ways sets nodes edges loops heads rows lent r after →
+      let c = offered version policy ways sets nodes edges loops heads rows in
       r ≡ writeAnswer c (writeVerdict c (length lent))
   write-answer r after p = same-write _ _ (p .told)
 
   pub write-determined : (r r′ : WriteAnswer) (after after′ : List ℕ) →
-      WritePromise policy ways sets nodes edges loops heads rows lent r after → WritePromise policy ways sets nodes edges loops heads rows lent r′ after′ →
+      WritePromise version policy ways sets nodes edges loops heads rows lent r after → WritePromise version policy ways sets nodes edges loops heads rows lent r′ after′ →
       (r ≡ r′) × (after ≡ after′)
   write-determined r r′ after after′ p q = (write-answer r after p ∙ sym (write-answer r′ after′ q), p .bytes ∙ sym (q .bytes))
 

@@ -50,14 +50,14 @@ pub record CheckPromise (file lent : List ℕ) (r : Verdict) (after : List ℕ) 
 
 -- `lent` and `after`: the lent bytes before and after. The answer is that of the verdict on the content; `reads` and `again` are the request's two sentences:
 -- "What it writes passes them and reads back as the same lists; and any file that passes them comes out again byte for byte when its content is written".
-pub record WritePromise (policy ways sets : ℕ) (nodes edges loops heads rows lent : List ℕ) (r : WriteAnswer) (after : List ℕ) : Type 0 where
+pub record WritePromise (version policy ways sets : ℕ) (nodes edges loops heads rows lent : List ℕ) (r : WriteAnswer) (after : List ℕ) : Type 0 where
   pub told :
-      let c = offered policy ways sets nodes edges loops heads rows in
+      let c = offered version policy ways sets nodes edges loops heads rows in
       toldWrite r ≡ toldWrite (writeAnswer c (writeVerdict c (length lent)))
   pub bytes :
-      let c = offered policy ways sets nodes edges loops heads rows in
+      let c = offered version policy ways sets nodes edges loops heads rows in
       after ≡ outAfter c lent (writeVerdict c (length lent))
-  pub reads : ReadsBack (offered policy ways sets nodes edges loops heads rows) (length lent)
+  pub reads : ReadsBack (offered version policy ways sets nodes edges loops heads rows) (length lent)
   pub again : (f : List ℕ) → WritesBack f
 
 -- `lent` and `after`: the lent rows before and after. The outcome is a refusal, or none where no limit up to k has evidence that the tool accepts, or the least limit that has and the rows that say

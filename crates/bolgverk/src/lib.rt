@@ -55,8 +55,9 @@ pub fn check(file: &[u8], numbers: &mut [u64]) -> Verdict
     }
 }
 
-// "Nodes, edges, loops and facts in, case file out in a lent buffer": two numbers an edge, three a loop, four a head (scope, block, l, how many rows), eight a row.
+// "Nodes, edges, loops and facts in, case file out in a lent buffer": two numbers an edge, three a loop and in version 2 four, four a head (scope, block, l, how many rows), eight a row.
 pub fn write(
+    version: u8,
     policy: u8,
     ways: u8,
     sets: u8,
@@ -67,9 +68,20 @@ pub fn write(
     rows: &[u16],
     out: &mut [u8],
 ) -> WriteAnswer
-    ensures { λ r. ⌜ WritePromise policy ways sets (now (nodes .entry)) (now (edges .entry)) (now (loops .entry)) (now (heads .entry)) (now (rows .entry)) (now (out .entry)) r (now (out .exit)) ⌝ }
+    ensures { λ r. ⌜ WritePromise version policy ways sets (now (nodes .entry)) (now (edges .entry)) (now (loops .entry)) (now (heads .entry)) (now (rows .entry)) (now (out .entry)) r (now (out .exit)) ⌝ }
 {
-    writer::write(policy, ways, sets, nodes, edges, loops, heads, rows, out)
+    writer::write(
+        version,
+        policy,
+        ways,
+        sets,
+        nodes,
+        edges,
+        loops,
+        heads,
+        rows,
+        out,
+    )
 }
 
 // "the smallest age limit up to k for which evidence exists, with the rows"

@@ -40,7 +40,7 @@ module _ (f : List ℕ) (trailer : Trailer) (laid : Laid f trailer) (sound : Sou
 
     entered-low : entered (caseOf f trailer) (caseOf f trailer .fact i) ≤ mostCount
     unfolding entered
-    entered-low = entries-low (caseOf f trailer) (sound .graph) (caseOf f trailer .fact i) (fact-head .scope)
+    entered-low = omega (arith, entries-low (caseOf f trailer) (sound .graph) (caseOf f trailer .fact i) (fact-head .scope))
 
     pub fact-small : (factBound (caseOf f trailer) (caseOf f trailer .fact i) ≤ largestBound) × (entered (caseOf f trailer) (caseOf f trailer .fact i) ≤ mostCount)
     unfolding factBound counts caseOf

@@ -49,13 +49,15 @@ fn charge_fact(
     ensures { λ r. ⌜ Chained.Lowered (Files.caseOf (now (file .entry)) trailer) (Bounds.covers (Files.caseOf (now (file .entry)) trailer) (Files.factAt (now (file .entry)) p)) (Files.factAt (now (file .entry)) p .limit) (now (cover .entry)) (now (cover .exit)) ⌝ }
 {
     let h = heads::head_at(file, trailer, counts, p);
-    let e = outers::entries_of(file, trailer, counts, outers, p, h.scope);
+    let e = outers::entries_of(file, trailer, counts, outers, p, h);
     let n = chains::cover_nodes(file, trailer, counts, chain, h, cover);
+    // "every bound uses the lesser of E and N in place of E"
+    let x = formulas::lesser(e, n);
     Cost {
         block: h.block,
         limit: h.limit,
-        entered: e,
-        bound: formulas::bound_of(trailer.policy, trailer.ways as u64, h.limit as u64, e, n),
+        entered: x,
+        bound: formulas::bound_of(trailer.policy, trailer.ways as u64, h.limit as u64, x, n),
         next: h.next,
     }
 }

@@ -1,21 +1,25 @@
 -- The content of a file: its numbers are those of the trailer, and its case is the case that the file holds.
 use Prim.Native.Nat.{ℕ, _+_, _*_, _/_, _%_, _≤_, _<_}
 use native.Mathlib.Omega.{arith}
+use native.Mathlib.Nat.{mul-mod-right, div-eq-of-eq-mul-right}
 use mathlib.Core.Path.{_≡_, refl, sym, _∙_, ap}
 use mathlib.Core.Bool.{false}
 use mathlib.Core.List.{List}
 use lib.ListN.{length, getD}
+use lib.Seq.{ext-getD}
 use borrow.Author.Tests.{eq-eqb}
 use Rattle.paper.specs.declared.Trailer.{Trailer}
 use Rattle.paper.specs.Lists.{sumTo, each}
 use Rattle.paper.specs.Files.{u16At, nodeAt, edgesAt, fromAt, toAt, loopAt, factPlace, caseOf}
-use Rattle.paper.specs.Writing.{FileContent, trailerIn, loopIn, rowsNamed, rowsBefore, caseIn, rowsAt, loopNumbers, headNumbers, rowNumbers, contentBy, badLists}
+use Rattle.paper.specs.Writing.{FileContent, perLoop, trailerIn, loopIn, rowsNamed, rowsBefore, caseIn, rowsAt, loopNumbers, headNumbers, rowNumbers, contentBy, badLists}
 use Rattle.paper.proofs.Parts.{stands-self}
+use Rattle.paper.proofs.LoopSizes.{per-low, visits-without}
 use Rattle.contents.proofs.Spaced.{length-spaced, getD-spaced, sum-same, sum-times, sum-all, length-each}
 use Rattle.contents.proofs.Standing.{stands-at}
 use Rattle.paper.proofs.SameGraphs.{SameGraph}
 use Rattle.paper.proofs.SameFacts.{SameFact}
 use Rattle.contents.proofs.SameCases.{SameCase}
+use Rattle.contents.proofs.LoopRecords.{values-length, loop-is, loop-part}
 
 -- number k of list i, where every list before it has w numbers
 pub each-at : (g : ℕ → List ℕ) (w : ℕ → ℕ) (n i k : ℕ) → ((j : ℕ) → j < n → length (g j) ≡ w j) → i < n → k < w i → getD (each g n) (sumTo w i + k) 0 ≡ getD (g i) k 0
@@ -31,9 +35,19 @@ module _ (f : List ℕ) (t : Trailer) where
   abbrev c : FileContent
   c = contentBy f t
 
-  length-loops : length (c .loops) ≡ 3 * t .loops
+  -- so many numbers has a loop
+  abbrev per : ℕ
+  per = perLoop (t .version)
+
+  per-pos : 0 < per
+  per-pos = omega (arith, per-low (t .version))
+
+  loop-length : (j : ℕ) → j < t .loops → length (loopNumbers f t j) ≡ per
+  loop-length j l = values-length (t .version) (loopAt f t j)
+
+  length-loops : length (c .loops) ≡ per * t .loops
   unfolding contentBy
-  length-loops = length-each (loopNumbers f t) (λ j. 3) (t .loops) (λ i l. refl) ∙ sum-all 3 (t .loops)
+  length-loops = length-each (loopNumbers f t) (λ j. per) (t .loops) loop-length ∙ sum-all per (t .loops)
 
   length-heads : length (c .heads) ≡ 4 * t .facts
   unfolding contentBy
@@ -52,7 +66,7 @@ module _ (f : List ℕ) (t : Trailer) where
   content-trailer =
       let nodes : length (c .nodes) ≡ t .nodes = length-nodes in
       let edges : length (c .edges) / 2 ≡ t .edges = omega (arith, length-edges) in
-      let loops : length (c .loops) / 3 ≡ t .loops = omega (arith, length-loops) in
+      let loops : length (c .loops) / per ≡ t .loops = div-eq-of-eq-mul-right per-pos length-loops in
       let facts : length (c .heads) / 4 ≡ t .facts = omega (arith, length-heads) in
       rw (nodes, edges, loops, facts) refl
 
@@ -73,10 +87,10 @@ module _ (f : List ℕ) (t : Trailer) where
 
   -- rule 4's lists are whole
   pub content-lists : badLists c ≡ false
-  unfolding badLists
+  unfolding badLists contentBy
   content-lists =
       let edges : length (c .edges) % 2 ≡ 0 = omega (arith, length-edges) in
-      let loops : length (c .loops) % 3 ≡ 0 = omega (arith, length-loops) in
+      let loops : length (c .loops) % per ≡ 0 = ap (λ (n : ℕ). n % per) length-loops ∙ mul-mod-right per (t .loops) in
       let heads : length (c .heads) % 4 ≡ 0 = omega (arith, length-heads) in
       let n : trailerIn c .facts ≡ t .facts = ap (λ (s : Trailer). s .facts) content-trailer in
       let rows : length (c .rows) ≡ 8 * rowsBefore c (trailerIn c .facts) = rw n (rw (content-before (t .facts) (omega arith)) length-rows) in
@@ -95,9 +109,9 @@ module _ (f : List ℕ) (t : Trailer) where
   unfolding contentBy
   head-number i k l m = record-at (headNumbers f t) 4 (t .facts) i k (λ j q. refl) l m
 
-  loop-number : (j k : ℕ) → j < t .loops → k < 3 → getD (c .loops) (3 * j + k) 0 ≡ getD (loopNumbers f t j) k 0
+  loop-number : (j k : ℕ) → j < t .loops → k < per → getD (c .loops) (per * j + k) 0 ≡ getD (loopNumbers f t j) k 0
   unfolding contentBy
-  loop-number j k l m = record-at (loopNumbers f t) 3 (t .loops) j k (λ i q. refl) l m
+  loop-number j k l m = record-at (loopNumbers f t) per (t .loops) j k loop-length l m
 
   node-number : (v : ℕ) → v < t .nodes → getD (c .nodes) v 0 ≡ nodeAt f v
   unfolding contentBy nodeAt
@@ -108,11 +122,14 @@ module _ (f : List ℕ) (t : Trailer) where
   edge-number k l = getD-spaced (u16At f) 2 (edgesAt t) (2 * t .edges) k l
 
   pub content-loop : (j : ℕ) → j < t .loops → loopIn c j ≡ loopAt f t j
-  unfolding loopIn
+  unfolding loopIn loopAt contentBy
   content-loop j l =
-      let e : 3 * j ≡ 3 * j + 0 = omega arith in
-      let first : getD (c .loops) (3 * j) 0 ≡ loopAt f t j .first = ap (λ (p : ℕ). getD (c .loops) p 0) e ∙ loop-number j 0 l (omega arith) in
-      rw (first, loop-number j 1 l (omega arith), loop-number j 2 l (omega arith)) refl
+      loop-is (t .version) (loopIn c j) (loopAt f t j) (λ h. visits-without (t .version) _ h ∙ sym (visits-without (t .version) _ h))
+      (loop-part c j
+      ∙ ext-getD 0 _ _ (length-spaced _ 1 _ _ ∙ sym (loop-length j l))
+      (λ k m.
+      let n : k < per = omega (arith, length-spaced (λ q. getD (c .loops) q 0) 1 (per * j) per) in
+      getD-spaced _ 1 _ _ k n ∙ ap (λ (p : ℕ). getD (c .loops) p 0) (omega arith) ∙ loop-number j k l n))
 
   -- The case of a file's content is the case that the file holds.
   content-graph : SameGraph (caseIn c) (caseOf f t)

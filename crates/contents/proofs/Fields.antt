@@ -5,17 +5,16 @@ use mathlib.Core.Path.{_≡_, refl, _∙_, ap}
 use mathlib.Core.Bool.{Bool, true, false, _&&_, false≢true}
 use mathlib.Core.List.{List, [], _∷_}
 use lib.Dec.{ltb}
-use lib.ListN.{length, getD}
+use lib.ListN.{length, getD, take}
 use lib.Seq.{ext-getD}
 use borrow.Author.Tests.{ltb-true}
-use Rattle.paper.specs.declared.Trailer.{Trailer}
 use Rattle.paper.specs.Lists.{spaced}
 use Rattle.paper.specs.Cases.{Fact}
 use Rattle.paper.specs.Demands.{Bytes}
 use Rattle.paper.specs.Records as Records
-use Rattle.paper.specs.Files.{u8At, u16At, u32At, loopPlace, loopAt}
+use Rattle.paper.specs.Files.{u8At, u16At, u32At}
 use Rattle.paper.specs.OneFact.{words, headBytes}
-use Rattle.paper.specs.Writing.{numberBytes, recordBytes, wordsAt, loopNumbers}
+use Rattle.paper.specs.Writing.{numberBytes, recordBytes, wordsAt}
 use Rattle.paper.proofs.Says.{both}
 use Rattle.paper.proofs.Parts.{Stands, stands-left, stands-right, stands-move}
 use Rattle.paper.proofs.Sections.{length-words, word-is}
@@ -78,9 +77,8 @@ recordAt f p d [] = []
 recordAt f p d (width ∷ fields) = numberAt f width (p + d) ∷ recordAt f p (d + width) fields
 
 -- a value for each field, and no field without a byte
-abbrev fitting : List ℕ → List ℕ → Bool
-fitting [] [] = true
-fitting [] (x ∷ values) = false
+abbrev pub fitting : List ℕ → List ℕ → Bool
+fitting [] values = true
 fitting (width ∷ fields) [] = false
 fitting (width ∷ fields) (x ∷ values) = ltb 0 width && fitting fields values
 
@@ -90,9 +88,9 @@ module _ (f : List ℕ) (p : ℕ) where
   field-is (suc width) q x l h = number-is f width q x h
 
   -- Reading undoes writing.
-  pub record-is : (d : ℕ) (fields values : List ℕ) → fitting fields values ≡ true → Stands f (p + d) (recordBytes fields values) → recordAt f p d fields ≡ values
-  record-is d [] [] e h = refl
-  record-is d [] (x ∷ values) e h = absurd (false≢true e)
+  pub record-is :
+      (d : ℕ) (fields values : List ℕ) → fitting fields values ≡ true → Stands f (p + d) (recordBytes fields values) → recordAt f p d fields ≡ take (length fields) values
+  record-is d [] values e h = refl
   record-is d (width ∷ fields) [] e h = absurd (false≢true e)
   record-is d (width ∷ fields) (x ∷ values) e h =
       let k = both (ltb 0 width) (fitting fields values) e in
@@ -111,12 +109,11 @@ module _ (f : List ℕ) (p : ℕ) where
       stands-both f (p + d) (numberBytes width x) (recordBytes fields (recordAt f p (d + width) fields)) (number-stands f b width (p + d))
       (stands-move f _ here (record-stands b (d + width) fields))
 
--- a loop's numbers are read where its record has its fields
-pub loop-record : (f : List ℕ) (t : Trailer) (j : ℕ) → recordAt f (loopPlace t j) 0 Records.loopFields ≡ loopNumbers f t j
-unfolding loopAt
-loop-record f t j =
-    let a : loopPlace t j + 0 ≡ loopPlace t j = omega arith in
-    rw a (simp (u16-number f, u32-number f) refl)
+-- values past the last field are not written
+pub record-taken : (fields values : List ℕ) → recordBytes fields (take (length fields) values) ≡ recordBytes fields values
+record-taken [] values = refl
+record-taken (width ∷ fields) [] = refl
+record-taken (width ∷ fields) (x ∷ values) = rw (record-taken fields values) refl
 
 -- A section of 16-bit numbers: reading undoes writing.
 pub words-read : (f : List ℕ) (p : ℕ) (xs : List ℕ) → Stands f p (words xs) → wordsAt f p (length xs) ≡ xs

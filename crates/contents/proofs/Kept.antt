@@ -18,6 +18,7 @@ use Rattle.paper.specs.Lists.{some}
 use Rattle.paper.specs.Cases.{Case, size, scopeOf}
 use Rattle.paper.specs.Facts.{nonePrevious, previousOf, badHead, badOrder, badRowAt, leastNode}
 use Rattle.paper.specs.Files.{endAt, trailerOf, badCache, badNumbers, headEnd, factEnd, factPlace, caseOf, readCase}
+use Rattle.paper.specs.Records.{badVersion}
 use Rattle.paper.specs.Rules.{ruleBy, Passes}
 use Rattle.paper.specs.Verdicts.{shapeRules, headRule, orderRule, rowRules}
 use Rattle.paper.specs.Writing.{FileContent, trailerIn, caseIn, fileOf, contentRules, inTurn, laidTurn, laidFacts, layoutVerdict, badLists, badRowsNamed, writtenTurn, writtenFacts, listRules, writeVerdict}
@@ -164,6 +165,7 @@ module _ (c : FileContent) where
 
   -- the refusals of the writer, all but 20
   pub record Writable : Type 0 where
+    pub version : badVersion (c .version) ≡ false
     pub cache : badCache (trailerIn c) ≡ false
     pub lists : badLists c ≡ false
     pub numbers : badNumbers (trailerIn c) ≡ false
@@ -173,13 +175,14 @@ module _ (c : FileContent) where
   pub write-writable : (room : ℕ) → writeVerdict c room ≡ Accepted → Writable × (length (fileOf c) ≤ room)
   unfolding writeVerdict listRules writtenFacts
   write-writable room h =
-      let a = past 3 0 (badCache (trailerIn c)) _ h in
+      let v = past 2 0 (badVersion (c .version)) _ h in
+      let a = past 3 0 (badCache (trailerIn c)) _ (v .1) in
       let b = past 4 0 (badLists c || badNumbers (trailerIn c)) _ (a .1) in
       let n = neither _ _ (b .0) in
       let s = chain-kept _ (hands-shape (caseIn c)) _ (b .1) in
       let t = turns-kept (caseIn c) (writtenTurn c) WrittenFact turn-written (trailerIn c .facts) 0 _ (s .1) in
       let g = past 20 0 (ltb room (length (fileOf c))) _ (t .1) in (
-        record { cache = a .0; lists = n .0; numbers = n .1; shape = s .0; facts = λ i l. t .0 i (omega arith) (omega arith) },
+        record { version = v .0; cache = a .0; lists = n .0; numbers = n .1; shape = s .0; facts = λ i l. t .0 i (omega arith) (omega arith) },
         ltb-false _ _ (g .0),
       )
 
@@ -187,8 +190,9 @@ module _ (c : FileContent) where
   unfolding writeVerdict listRules writtenFacts
   writable-write room k l =
       let n : (badLists c || badNumbers (trailerIn c)) ≡ false = rw (k .lists, k .numbers) refl in
-      onward (refuse 3 0) _ _ (k .cache)
+      onward (refuse 2 0) _ _ (k .version)
+      (onward (refuse 3 0) _ _ (k .cache)
       (onward (refuse 4 0) _ _ n
       (kept-chain _ (hands-shape (caseIn c)) _ (k .shape)
       (kept-turns (caseIn c) (writtenTurn c) WrittenFact written-turn (trailerIn c .facts) 0 _
-      (λ i m q. k .facts i (omega arith)) (onward (refuse 20 0) _ _ (le-ltb _ _ l) refl))))
+      (λ i m q. k .facts i (omega arith)) (onward (refuse 20 0) _ _ (le-ltb _ _ l) refl)))))

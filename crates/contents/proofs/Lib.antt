@@ -1,6 +1,7 @@
 pub mod Spaced
 pub mod Standing
 pub mod Fields
+pub mod LoopRecords
 pub mod Trailers
 pub mod Kept
 pub mod SameCases
@@ -9,6 +10,5 @@ pub mod Written
 pub mod Rereading
 pub mod Rewriting
 pub mod Accepted
-pub mod FileBytes
 pub mod WriteLaws
 pub mod WriteNumbers

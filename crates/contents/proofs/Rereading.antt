@@ -5,7 +5,7 @@ use native.Mathlib.Decide.{ℕ-discrete}
 use mathlib.Core.Path.{_≡_, refl, sym, _∙_, ap, subst}
 use mathlib.Core.Bool.{false}
 use mathlib.Core.List.{List, [], _∷_}
-use lib.ListN.{length, getD, length-append}
+use lib.ListN.{length, getD, take, length-append}
 use borrow.Author.Tests.{eq-eqb, ne-eqb, eqb-true, not-false}
 use Rattle.paper.specs.declared.Trailer.{Trailer}
 use Rattle.paper.specs.declared.Verdict.the-variants.{Accepted}
@@ -15,14 +15,16 @@ use Rattle.paper.specs.Cases.{size, rangeOf, scopeOf}
 use Rattle.paper.specs.Records as Records
 use Rattle.paper.specs.Files.{u16At, endAt, trailerOf, badCache, edgesAt, loopsAt, loopPlace, factsAt, headEnd, loopAt, factEnd, factPlace, caseOf}
 use Rattle.paper.specs.OneFact.{words, headBytes}
-use Rattle.paper.specs.Writing.{FileContent, trailerIn, loopIn, rowsNamed, rowsBefore, factIn, caseIn, loopBytes, rowsIn, factBytes, fileOf, wordsAt, rowsAt, loopNumbers, headNumbers, rowNumbers, contentBy, contentOf, layoutVerdict, badRowsNamed, writeVerdict}
+use Rattle.paper.specs.Writing.{FileContent, perLoop, trailerIn, loopIn, rowsNamed, rowsBefore, factIn, caseIn, loopValues, loopBytes, rowsIn, factBytes, fileOf, wordsAt, rowsAt, loopNumbers, headNumbers, rowNumbers, contentBy, contentOf, layoutVerdict, badRowsNamed, writeVerdict}
 use Rattle.paper.proofs.FactLaws.{head-sound}
 use Rattle.paper.proofs.SameGraphs.{shape-same}
 use Rattle.paper.proofs.Parts.{Stands, stands-self, stands-left, stands-right, stands-move}
 use Rattle.paper.proofs.Sections.{word-is}
+use Rattle.paper.proofs.LoopSizes.{visits-without}
 use Rattle.contents.proofs.Spaced.{each-rises, parts-all, length-spaced, sum-all, sum-times, each-same}
 use Rattle.contents.proofs.Standing.{stands-at}
-use Rattle.contents.proofs.Fields.{record-is, loop-record, words-read, length-head}
+use Rattle.contents.proofs.Fields.{record-is, words-read, length-head}
+use Rattle.contents.proofs.LoopRecords.{loop-fitting, loop-is, loop-record, loop-part}
 use Rattle.contents.proofs.Trailers.{trailer-read, letters-read, offsets-read}
 use Rattle.contents.proofs.Kept.{beforeOf, KeptContent, LaidFact, LaidFile, laid-layout, Writable, write-writable}
 use Rattle.contents.proofs.SameCases.{SameCase, content-same}
@@ -42,7 +44,10 @@ module _ (c : FileContent) where
   t = trailerIn c
 
   abbrev loopsPart : ℕ → List ℕ
-  loopsPart n = each (λ j. loopBytes (loopIn c j)) n
+  loopsPart n = each (λ j. loopBytes (c .version) (loopIn c j)) n
+
+  abbrev per : ℕ
+  per = perLoop (c .version)
 
   abbrev factsPart : ℕ → List ℕ
   factsPart n = each (factBytes c) n
@@ -56,21 +61,20 @@ module _ (c : FileContent) where
     edges-back = rw (← w .edges) (words-read f (edgesAt t) (c .edges) (stands-left f (edgesAt t) (words (c .edges)) _ (edges-part c w)))
 
     -- a loop reads back
-    loop-numbers : (j : ℕ) → j < t .loops → loopNumbers f t j ≡ part (c .loops) (3 * j) 3
-    unfolding loopBytes spaced loopIn
-    loop-numbers j l =
-        let s : Stands f (loopPlace t j + 0) (loopBytes (loopIn c j))
+    loop-values : (j : ℕ) → j < t .loops → loopNumbers f t j ≡ take per (loopValues (loopIn c j))
+    unfolding trailerIn loopBytes perLoop
+    loop-values j l =
+        let s : Stands f (loopPlace t j + 0) (loopBytes (c .version) (loopIn c j))
         = stands-move f _ (omega (arith, loops-length c j)) (stands-at f (loopsAt t) _ (t .loops) j l (stands-left f (loopsAt t) (loopsPart (t .loops)) _ (loops-part c w))) in
-        let a : 3 * j + 1 + 1 ≡ 3 * j + 2 = omega arith in
-        let xs = loopIn c j .first ∷ loopIn c j .last ∷ loopIn c j .bound ∷ [] in
-        sym (loop-record f t j) ∙ record-is f (loopPlace t j) 0 Records.loopFields xs refl s ∙ rw a refl
+        sym (loop-record f t j) ∙ record-is f (loopPlace t j) 0 (Records.loopFields (c .version)) _ (loop-fitting (c .version) (loopIn c j)) s
+
+    loop-numbers : (j : ℕ) → j < t .loops → loopNumbers f t j ≡ part (c .loops) (per * j) per
+    loop-numbers j l = loop-values j l ∙ loop-part c j
 
     loop-back : (j : ℕ) → j < t .loops → loopAt f t j ≡ loopIn c j
-    unfolding loopAt loopIn spaced
+    unfolding trailerIn loopAt loopIn
     loop-back j l =
-        let e : (k : ℕ) → getD (loopNumbers f t j) k 0 ≡ getD (part (c .loops) (3 * j) 3) k 0 = λ k. ap (λ (s : List ℕ). getD s k 0) (loop-numbers j l) in
-        let a : 3 * j + 1 + 1 ≡ 3 * j + 2 = omega arith in
-        rw (e 0, e 1, e 2, a) refl
+        loop-is (c .version) (loopAt f t j) (loopIn c j) (λ h. visits-without (c .version) _ h ∙ sym (visits-without (c .version) _ h)) (loop-values j l)
 
     module _ (k : Writable c) where
       -- 15: the head names as many rows as the scope has nodes
@@ -129,8 +133,8 @@ module _ (c : FileContent) where
 
       loops-back : each (loopNumbers f t) (t .loops) ≡ c .loops
       loops-back =
-          each-same (loopNumbers f t) (λ j. part (c .loops) (3 * j) 3) (t .loops) loop-numbers
-          ∙ parts-all (c .loops) (λ j. 3) (λ j. 3 * j) (t .loops) (w .loops ∙ sym (sum-all 3 (t .loops))) (λ j l. sym (sum-all 3 j))
+          each-same (loopNumbers f t) (λ j. part (c .loops) (per * j) per) (t .loops) loop-numbers
+          ∙ parts-all (c .loops) (λ j. per) (λ j. per * j) (t .loops) (w .loops ∙ sym (sum-all per (t .loops))) (λ j l. sym (sum-all per j))
 
       heads-back : each (headNumbers f t) (t .facts) ≡ c .heads
       heads-back =
@@ -159,14 +163,15 @@ module _ (c : FileContent) where
           record { head-room = omega (arith, r, end-after f t (factPlace f t i)); rows-room = r; kept = kept }
 
       file-laid : LaidFile f t
-      unfolding caseIn badCache
+      unfolding trailerIn caseIn badCache
       file-laid =
           let sizes : (i : ℕ) → i < t .facts → size (scopeOf (caseIn c) (caseIn c .fact i)) ≡ rowsAt f t i = λ i l. sym (named i l) ∙ sym (rows-named i l (places i (omega arith))) in
           record {
             layout =
                 record {
                   long = omega (arith, (file-length c w));
-                  letters = letters-read f t (trailer-part c w);
+                  letters = letters-read f t (trailer-part c w) (k .version);
+                  version = k .version;
                   cache = not-false _ (k .cache);
                   numbers = k .numbers;
                   offsets = offsets-read f t (trailer-part c w) (omega (arith, (file-length c w)));

@@ -12,17 +12,18 @@ use Rattle.paper.specs.declared.Verdict.the-variants.{Accepted}
 use Rattle.paper.specs.Lists.{each, spaced}
 use Rattle.paper.specs.Demands.{Bytes}
 use Rattle.paper.specs.Cases.{size, scopeOf}
-use Rattle.paper.specs.Records as Records
+use Rattle.paper.specs.Records.{loopFields, loopSize}
 use Rattle.paper.specs.Files.{u16At, endAt, trailerOf, badCache, edgesAt, loopsAt, loopPlace, factsAt, headEnd, loopAt, factEnd, factPlace, caseOf}
 use Rattle.paper.specs.OneFact.{words, headBytes}
-use Rattle.paper.specs.Writing.{FileContent, loopIn, rowsBefore, caseIn, recordBytes, loopBytes, trailerBytes, rowsIn, factBytes, fileOf, wordsAt, rowsAt, rowNumbers, contentBy, contentOf, layoutVerdict, badRowsNamed, writeVerdict}
+use Rattle.paper.specs.Writing.{FileContent, perLoop, loopIn, rowsBefore, caseIn, recordBytes, loopValues, loopBytes, trailerBytes, rowsIn, factBytes, fileOf, wordsAt, rowsAt, rowNumbers, contentBy, contentOf, layoutVerdict, badRowsNamed, writeVerdict}
 use Rattle.paper.proofs.LayoutTests.{offsets-at}
 use Rattle.paper.proofs.SameGraphs.{shape-same}
 use Rattle.paper.proofs.Parts.{Stands, stands-move}
 use Rattle.paper.proofs.Sections.{length-words}
 use Rattle.contents.proofs.Spaced.{length-spaced, getD-spaced, sum-all, length-each, each-same}
 use Rattle.contents.proofs.Standing.{stands-whole, stands-both, stands-each}
-use Rattle.contents.proofs.Fields.{record-stands, loop-record, words-stand, length-head}
+use Rattle.contents.proofs.Fields.{record-stands, record-taken, words-stand, length-head}
+use Rattle.contents.proofs.LoopRecords.{loop-length, loop-record}
 use Rattle.contents.proofs.Trailers.{trailer-stands}
 use Rattle.contents.proofs.Kept.{beforeOf, KeptContent, LaidFile, layout-laid, Writable, writable-write}
 use Rattle.contents.proofs.SameCases.{same-back, size-same, content-same}
@@ -56,19 +57,20 @@ module _ (f : List ℕ) (t : Trailer) where
   abbrev sections : List ℕ
   sections =
       words (wordsAt f 0 (t .nodes))
-      ++ (words (wordsAt f (edgesAt t) (2 * t .edges)) ++ (each (λ j. loopBytes (loopAt f t j)) (t .loops) ++ (each factAgain (t .facts) ++ trailerBytes t)))
+      ++ (words (wordsAt f (edgesAt t) (2 * t .edges)) ++ (each (λ j. loopBytes (t .version) (loopAt f t j)) (t .loops) ++ (each factAgain (t .facts) ++ trailerBytes t)))
 
   file-again : fileOf c ≡ sections
   unfolding fileOf contentBy
   file-again =
-      let loops = each-same (λ j. loopBytes (loopIn c j)) (λ j. loopBytes (loopAt f t j)) (t .loops) (λ j l. ap loopBytes (content-loop f t j l)) in
+      let loops = each-same (λ j. loopBytes (t .version) (loopIn c j)) (λ j. loopBytes (t .version) (loopAt f t j)) (t .loops) (λ j l. ap (loopBytes (t .version)) (content-loop f t j l)) in
       let facts = each-same (factBytes c) factAgain (t .facts) fact-again in
       rw (content-trailer f t, loops, facts) refl
 
   -- where loop j and fact i begin
-  loops-place : (j : ℕ) → length (each (λ i. loopBytes (loopAt f t i)) j) ≡ 8 * j
-  unfolding loopBytes
-  loops-place j = length-each (λ i. loopBytes (loopAt f t i)) (λ i. 8) j (λ i l. refl) ∙ sum-all 8 j
+  loops-place : (j : ℕ) → length (each (λ i. loopBytes (t .version) (loopAt f t i)) j) ≡ loopSize (t .version) * j
+  loops-place j =
+      let size = loopSize (t .version) in
+      length-each (λ i. loopBytes (t .version) (loopAt f t i)) (λ i. size) j (λ i l. loop-length (t .version) (loopAt f t i)) ∙ sum-all size j
 
   fact-length : (i : ℕ) → length (factAgain i) ≡ 6 + 16 * rowsAt f t i
   fact-length i =
@@ -81,12 +83,13 @@ module _ (f : List ℕ) (t : Trailer) where
   facts-place (suc i) = omega (arith, length-append (each factAgain i) (factAgain i), fact-length i, facts-place i)
 
   module _ (b : Bytes f) where
-    loop-stands : (j : ℕ) → Stands f (loopPlace t j) (loopBytes (loopAt f t j))
-    unfolding loopBytes
+    loop-stands : (j : ℕ) → Stands f (loopPlace t j) (loopBytes (t .version) (loopAt f t j))
+    unfolding loopBytes perLoop
     loop-stands j =
         let here : loopPlace t j + 0 ≡ loopPlace t j = omega arith in
-        stands-move f _ here
-        (subst (λ (l : List ℕ). Stands f (loopPlace t j + 0) (recordBytes Records.loopFields l)) (loop-record f t j) (record-stands f (loopPlace t j) b 0 Records.loopFields))
+        let fields = loopFields (t .version) in
+        let again = ap (recordBytes fields) (loop-record f t j) ∙ record-taken fields (loopValues (loopAt f t j)) in
+        stands-move f _ here (subst (Stands f (loopPlace t j + 0)) again (record-stands f (loopPlace t j) b 0 fields))
 
     head-stands : (i : ℕ) → Stands f (factPlace f t i) (headBytes (caseOf f t .fact i))
     unfolding caseOf spaced
@@ -119,10 +122,10 @@ module _ (f : List ℕ) (t : Trailer) where
         loops-here : loopsAt t ≡ edgesAt t + length (words (wordsAt f (edgesAt t) (2 * t .edges)))
         loops-here = omega (arith, length-words (wordsAt f (edgesAt t) (2 * t .edges)), length-spaced (u16At f) 2 (edgesAt t) (2 * t .edges))
 
-        loop-here : (j : ℕ) → loopsAt t + 8 * j ≡ loopsAt t + length (each (λ i. loopBytes (loopAt f t i)) j)
+        loop-here : (j : ℕ) → loopPlace t j ≡ loopsAt t + length (each (λ i. loopBytes (t .version) (loopAt f t i)) j)
         loop-here j = omega (arith, loops-place j)
 
-        facts-here : factsAt t ≡ loopsAt t + length (each (λ i. loopBytes (loopAt f t i)) (t .loops))
+        facts-here : factsAt t ≡ loopsAt t + length (each (λ i. loopBytes (t .version) (loopAt f t i)) (t .loops))
         facts-here = omega (arith, loops-place (t .loops))
 
   sections-length : length sections ≡ factPlace f t (t .facts) + 32
@@ -147,11 +150,12 @@ module _ (f : List ℕ) (t : Trailer) where
 
     -- the writer takes the content of a file that is laid out
     content-writable : Writable c
-    unfolding caseOf rowsAt badCache
+    unfolding caseOf rowsAt badCache contentBy
     content-writable =
         let back = same-back _ _ _ (content-case f t) in
         let kept : (i : ℕ) → i < t .facts → KeptContent (caseOf f t) i (beforeOf (caseOf f t) i) false = λ i l. k .facts i l .kept in
         record {
+          version = k .layout .version;
           cache = rw (content-trailer f t) (ap not (k .layout .cache));
           lists = content-lists f t;
           numbers = rw (content-trailer f t) (k .layout .numbers);

@@ -11,7 +11,7 @@ use Rattle.paper.specs.declared.Trailer.{Trailer}
 use Rattle.paper.specs.Lists.{some, spaced}
 use Rattle.paper.specs.Demands.{Bytes}
 use Rattle.paper.specs.Records as Records
-use Rattle.paper.specs.Files.{u8At, u16At, u32At, endAt, letters, version, trailerOf, badLetter, badLetters, badOffsets, edgesAt, loopsAt, factsAt}
+use Rattle.paper.specs.Files.{u8At, u16At, u32At, endAt, letters, trailerOf, badLetter, badLetters, badOffsets, edgesAt, loopsAt, factsAt}
 use Rattle.paper.specs.Writing.{trailerNumbers, trailerBytes, recordBytes}
 use Rattle.paper.proofs.Least.{none-some, some-none}
 use Rattle.paper.proofs.Says.{neither}
@@ -60,7 +60,7 @@ module _ (f : List ℕ) (t : Trailer) (h : Stands f (endAt f) (trailerBytes t)) 
 
   pub trailer-read : trailerOf f ≡ t
   unfolding trailerOf
-  trailer-read = rw (field 4, field 5, field 6, field 7, field 8, field 9, field 10) refl
+  trailer-read = rw (field 4, field 5, field 6, field 7, field 8, field 9, field 10, field 11) refl
 
   letter-is : (k : ℕ) → k < length letters → badLetter f k ≡ false
   unfolding badLetter
@@ -71,9 +71,9 @@ module _ (f : List ℕ) (t : Trailer) (h : Stands f (endAt f) (trailerBytes t)) 
       ∙ field (suc (suc (suc (suc (suc (suc (suc (suc (suc (suc (suc (suc k)))))))))))) in
       rw (eq-eqb _ _ e) refl
 
-  pub letters-read : badLetters f ≡ false
+  pub letters-read : Records.badVersion (t .version) ≡ false → badLetters f ≡ false
   unfolding badLetters
-  letters-read = rw (some-none (badLetter f) (length letters) letter-is, field 11) refl
+  letters-read known = rw (some-none (badLetter f) (length letters) letter-is, field 11) known
 
   pub offsets-read : factsAt t ≤ endAt f → badOffsets f t ≡ false
   unfolding badOffsets
@@ -95,14 +95,10 @@ module _ (f : List ℕ) (offsets : badOffsets f (trailerOf f) ≡ false) (marks 
       ∙ ap (λ (p : ℕ). u8At f p) (omega arith)
       ∙ eqb-true _ _ (not-false _ (none-some _ (length letters) (neither _ _ marks .0) k (omega arith))))
 
-  version-at : u8At f (endAt f + Records.versionField) ≡ version
-  unfolding badLetters
-  version-at = eqb-true _ _ (not-false _ (neither (some (badLetter f) (length letters)) _ marks .1))
-
   -- what rules 2 and 5 say of the trailer that is read
   trailer-says : trailerRead f ≡ trailerNumbers (trailerOf f)
   unfolding trailerOf
-  trailer-says = let o = offsets-at f (trailerOf f) offsets in rw (o .nodes, o .edges, o .loops, o .facts, version-at, letters-at) refl
+  trailer-says = let o = offsets-at f (trailerOf f) offsets in rw (o .nodes, o .edges, o .loops, o .facts, letters-at) refl
 
   pub trailer-stands : Bytes f → Stands f (endAt f) (trailerBytes (trailerOf f))
   unfolding trailerBytes

@@ -1,4 +1,4 @@
--- The paper's file as a content: it is written as the paper's bytes and read back; and each of the writer's refusals once, with its place. By computation.
+-- The paper's file as a content: it is written as the paper's bytes and read back, and so is one with W; and each of the writer's refusals once, with its place. By computation.
 use Prim.Native.Nat.{ℕ}
 use mathlib.Core.Path.{_≡_, refl}
 use mathlib.Core.Bool.{Bool, true, _&&_}
@@ -12,11 +12,12 @@ use Rattle.paper.specs.Machines.{none, offered, setCount, inRange}
 use Rattle.paper.specs.Cases.{rangeOf, sameSet}
 use Rattle.paper.specs.Graphs.{risesFrom, crosses, wrongEdge, wrongLoop, badEdge, badLoop}
 use Rattle.paper.specs.Facts.{held, wrongHead, badHead, wrongOrder, badOrder, badSlot, badRow, badRowAt, leastNode}
-use Rattle.paper.specs.Files.{u16At, u32At, trailerOf, badLetter, badLetters, badCache, badNumbers, badOffsets, nodeAt, fromAt, toAt, loopAt, factEnd, factPlace, caseOf}
+use Rattle.paper.specs.Records.{withoutW, withW, badVersion, loopFields, loopSize}
+use Rattle.paper.specs.Files.{u16At, u32At, trailerOf, badLetter, badLetters, badCache, badNumbers, badOffsets, visitsBy, nodeAt, fromAt, toAt, loopAt, factEnd, factPlace, caseOf}
 use Rattle.paper.specs.Checked.{paperFile}
 use Rattle.paper.specs.Verdicts.{layoutRules, shapeRules, headRule, orderRule, rowRules}
 use Rattle.paper.specs.OneFact.{words}
-use Rattle.paper.specs.Writing.{FileContent, trailerIn, loopIn, rowsNamed, caseIn, loopBytes, trailerBytes, factBytes, fileOf, rowsAt, contentBy, contentOf, contentRules, inTurn, laidTurn, laidFacts, layoutVerdict, badLists, badRowsNamed, writtenTurn, writtenFacts, listRules, writeVerdict}
+use Rattle.paper.specs.Writing.{FileContent, perLoop, trailerIn, loopIn, rowsNamed, caseIn, loopBytes, trailerBytes, factBytes, fileOf, rowsAt, contentBy, contentOf, contentRules, inTurn, laidTurn, laidFacts, layoutVerdict, badLists, badRowsNamed, writtenTurn, writtenFacts, listRules, writeVerdict}
 
 -- a row of no blocks, of one, and the free slots after them
 abbrev free : ℕ → List ℕ
@@ -28,10 +29,11 @@ noBlock = 0 ∷ free 7
 abbrev oneBlock : ℕ → List ℕ
 oneBlock b = 1 ∷ b ∷ free 6
 
--- the paper's file with this cache, these edges, loops and heads, and this first row
-abbrev contentWith : ℕ → List ℕ → List ℕ → List ℕ → List ℕ → FileContent
-contentWith policy edges loops heads row =
+-- the paper's file in this version, with this cache, these edges, loops and heads, and this first row
+abbrev contentIn : ℕ → ℕ → List ℕ → List ℕ → List ℕ → List ℕ → FileContent
+contentIn version policy edges loops heads row =
     record {
+      version = version;
       policy = policy;
       ways = 2;
       sets = 1;
@@ -41,6 +43,9 @@ contentWith policy edges loops heads row =
       heads = heads;
       rows = row ++ (noBlock ++ (noBlock ++ oneBlock 5));
     }
+
+abbrev contentWith : ℕ → List ℕ → List ℕ → List ℕ → List ℕ → FileContent
+contentWith = contentIn withoutW
 
 abbrev paperEdges : List ℕ
 paperEdges = 0 ∷ 1 ∷ 1 ∷ 2 ∷ 2 ∷ 1 ∷ 2 ∷ 3 ∷ []
@@ -55,12 +60,20 @@ abbrev paperContent : FileContent
 paperContent = contentWith 1 paperEdges paperLoops paperHeads (oneBlock 6)
 
 paper-written : fileOf paperContent ≡ paperFile 1
-unfolding sumTo each spaced words trailerIn loopIn rowsNamed caseIn loopBytes trailerBytes factBytes fileOf
+unfolding sumTo each spaced words loopFields loopSize visitsBy perLoop trailerIn loopIn rowsNamed caseIn loopBytes trailerBytes factBytes fileOf
 paper-written = refl
 
 paper-read : contentOf (paperFile 1) ≡ paperContent
-unfolding leastFrom least some sumTo each spaced u16At u32At trailerOf rangeOf loopAt factEnd factPlace caseOf rowsAt contentBy
+unfolding leastFrom least some sumTo each spaced loopFields loopSize visitsBy u16At u32At trailerOf rangeOf loopAt factEnd factPlace caseOf perLoop rowsAt contentBy
 paper-read = refl
+
+-- the same in version 2, with this W
+abbrev limited : ℕ → FileContent
+limited W = contentIn withW 1 paperEdges (1 ∷ 2 ∷ 10 ∷ W ∷ []) paperHeads (oneBlock 6)
+
+limited-read : contentOf (fileOf (limited 7)) ≡ limited 7
+unfolding leastFrom least some sumTo each spaced words loopFields loopSize visitsBy u16At u32At trailerOf rangeOf loopAt factEnd factPlace caseOf perLoop trailerIn loopIn rowsNamed caseIn loopBytes trailerBytes factBytes fileOf rowsAt contentBy
+limited-read = refl
 
 -- a content, a room, and the number and places of the answer, all 0 where the file is written
 abbrev Answered : Type 0
@@ -82,6 +95,12 @@ abbrev answers : List Answered
 answers =
     (paperContent, 140, 0, 0, 0)
     ∷ (paperContent, 139, 20, 0, 0)
+    -- four bytes more for W; a version that there is not, before all else; W = 0; three numbers for four
+    ∷ (limited 7, 144, 0, 0, 0)
+    ∷ (limited 7, 143, 20, 0, 0)
+    ∷ (contentIn 3 3 paperEdges paperLoops paperHeads (oneBlock 6), 140, 2, 0, 0)
+    ∷ (limited 0, 144, 7, 0, 0)
+    ∷ (contentIn withW 1 paperEdges paperLoops paperHeads (oneBlock 6), 144, 4, 0, 0)
     ∷ (contentWith 3 paperEdges paperLoops paperHeads (oneBlock 6), 140, 3, 0, 0)
     -- half an edge; rows that no head names
     ∷ (contentWith 1 (0 ∷ 1 ∷ 1 ∷ []) paperLoops paperHeads (oneBlock 6), 140, 4, 0, 0)
@@ -99,10 +118,10 @@ answers =
     ∷ []
 
 answers-hold : allAnswer answers ≡ true
-unfolding leastFrom least some sumTo each spaced offered setCount inRange rangeOf sameSet risesFrom crosses wrongEdge wrongLoop badEdge badLoop held wrongHead badHead wrongOrder badOrder badSlot badRow badRowAt leastNode badCache badNumbers words trailerIn loopIn rowsNamed caseIn loopBytes trailerBytes factBytes fileOf shapeRules headRule orderRule rowRules contentRules inTurn badLists badRowsNamed writtenTurn writtenFacts listRules writeVerdict
+unfolding leastFrom least some sumTo each spaced offered setCount inRange rangeOf sameSet risesFrom crosses wrongEdge wrongLoop badEdge badLoop held wrongHead badHead wrongOrder badOrder badSlot badRow badRowAt leastNode badCache badNumbers words badVersion loopFields loopSize visitsBy perLoop trailerIn loopIn rowsNamed caseIn loopBytes trailerBytes factBytes fileOf shapeRules headRule orderRule rowRules contentRules inTurn badLists badRowsNamed writtenTurn writtenFacts listRules writeVerdict
 answers-hold = refl
 
 -- the paper's file passes the layout rules
 paper-laid : layoutVerdict (paperFile 1) ≡ Accepted
-unfolding leastFrom least some sumTo each spaced offered setCount inRange rangeOf sameSet risesFrom crosses wrongEdge wrongLoop badEdge badLoop held wrongHead badHead wrongOrder badOrder badSlot badRow badRowAt leastNode u16At u32At trailerOf badLetter badLetters badCache badNumbers badOffsets nodeAt fromAt toAt loopAt factEnd factPlace caseOf layoutRules shapeRules headRule orderRule rowRules contentRules inTurn laidTurn laidFacts
+unfolding leastFrom least some sumTo each spaced offered setCount inRange rangeOf sameSet risesFrom crosses wrongEdge wrongLoop badEdge badLoop held wrongHead badHead wrongOrder badOrder badSlot badRow badRowAt leastNode badVersion loopFields loopSize visitsBy u16At u32At trailerOf badLetter badLetters badCache badNumbers badOffsets nodeAt fromAt toAt loopAt factEnd factPlace caseOf layoutRules shapeRules headRule orderRule rowRules contentRules inTurn laidTurn laidFacts
 paper-laid = refl

@@ -48,11 +48,11 @@ module _ (file lent : List ℕ) (r at within : ℕ) (after : List ℕ) where
         holds = λ z. p .holds (accepted v k (omega arith));
       }
 
-module _ (policy ways sets : ℕ) (nodes edges loops heads rows lent : List ℕ) (before r size at within : ℕ) (after : List ℕ) where
-  pub write-call : (v : WriteAnswer) → WritePromise policy ways sets nodes edges loops heads rows lent v after → r ≡ toldWrite v .number → size ≡ valueOr before (toldWrite v) →
-      at ≡ toldWrite v .place → within ≡ toldWrite v .second → WriteCall policy ways sets nodes edges loops heads rows lent before r size at within after
+module _ (version policy ways sets : ℕ) (nodes edges loops heads rows lent : List ℕ) (before r size at within : ℕ) (after : List ℕ) where
+  pub write-call : (v : WriteAnswer) → WritePromise version policy ways sets nodes edges loops heads rows lent v after → r ≡ toldWrite v .number → size ≡ valueOr before (toldWrite v) →
+      at ≡ toldWrite v .place → within ≡ toldWrite v .second → WriteCall version policy ways sets nodes edges loops heads rows lent before r size at within after
   write-call v p n l a s =
-      let c : FileContent = record { policy = policy; ways = ways; sets = sets; nodes = nodes; edges = edges; loops = loops; heads = heads; rows = rows } in
+      let c : FileContent = record { version = version; policy = policy; ways = ways; sets = sets; nodes = nodes; edges = edges; loops = loops; heads = heads; rows = rows } in
       let k = refused-as 1 _ _ (p .told) (write-numbered c (length lent) .refused) in
       record { answer = v; promise = p; number = n; length = l; place = a; second = s; refused = λ h. number-as 1 r _ n (k h) }
 

@@ -27,12 +27,12 @@ module _ (file lent : List ℕ) (r r′ at at′ within within′ : ℕ) (after 
         e .1,
       )
 
-module _ (policy ways sets : ℕ) (nodes edges loops heads rows lent : List ℕ) (before r r′ size size′ at at′ within within′ : ℕ) (after after′ : List ℕ) where
-  pub write-call-determined : WriteCall policy ways sets nodes edges loops heads rows lent before r size at within after →
-      WriteCall policy ways sets nodes edges loops heads rows lent before r′ size′ at′ within′ after′ →
+module _ (version policy ways sets : ℕ) (nodes edges loops heads rows lent : List ℕ) (before r r′ size size′ at at′ within within′ : ℕ) (after after′ : List ℕ) where
+  pub write-call-determined : WriteCall version policy ways sets nodes edges loops heads rows lent before r size at within after →
+      WriteCall version policy ways sets nodes edges loops heads rows lent before r′ size′ at′ within′ after′ →
       (r ≡ r′) × (size ≡ size′) × (at ≡ at′) × (within ≡ within′) × (after ≡ after′)
   write-call-determined p q =
-      let e = write-determined policy ways sets nodes edges loops heads rows lent _ _ _ _ (p .promise) (q .promise) in (
+      let e = write-determined version policy ways sets nodes edges loops heads rows lent _ _ _ _ (p .promise) (q .promise) in (
         same (λ (v : WriteAnswer). toldWrite v .number) (e .0) (p .number) (q .number),
         same (λ (v : WriteAnswer). valueOr before (toldWrite v)) (e .0) (p .length) (q .length),
         same (λ (v : WriteAnswer). toldWrite v .place) (e .0) (p .place) (q .place),

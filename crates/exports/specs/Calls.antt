@@ -28,9 +28,9 @@ pub record CheckCall (file lent : List ℕ) (r at within : ℕ) (after : List �
   pub holds : r ≡ 0 → Holds (readCase file) after
 
 -- The refusal's number, or 0; its places, or 0; how long the file is; the lent bytes afterwards.
-pub record WriteCall (policy ways sets : ℕ) (nodes edges loops heads rows lent : List ℕ) (before r size at within : ℕ) (after : List ℕ) : Type 0 where
+pub record WriteCall (version policy ways sets : ℕ) (nodes edges loops heads rows lent : List ℕ) (before r size at within : ℕ) (after : List ℕ) : Type 0 where
   pub answer : WriteAnswer
-  pub promise : WritePromise policy ways sets nodes edges loops heads rows lent answer after
+  pub promise : WritePromise version policy ways sets nodes edges loops heads rows lent answer after
   pub number : r ≡ toldWrite answer .number
   pub length : size ≡ valueOr before (toldWrite answer)
   pub place : at ≡ toldWrite answer .place

@@ -21,6 +21,7 @@ pub extern "C" fn bolgverk_check(
 // The refusal's number, or 0; `place` and `second` get the refusal's places, or 0; `length` gets the file's, where nothing is refused.
 #[no_mangle]
 pub extern "C" fn bolgverk_write(
+    version: u8,
     policy: u8,
     ways: u8,
     sets: u8,
@@ -34,9 +35,20 @@ pub extern "C" fn bolgverk_write(
     place: &mut u64,
     second: &mut u64,
 ) -> u8
-    ensures { λ r. ⌜ WriteCall policy ways sets (now (nodes .entry)) (now (edges .entry)) (now (loops .entry)) (now (heads .entry)) (now (rows .entry)) (now (out .entry)) (now (length .entry)) r (now (length .exit)) (now (place .exit)) (now (second .exit)) (now (out .exit)) ⌝ }
+    ensures { λ r. ⌜ WriteCall version policy ways sets (now (nodes .entry)) (now (edges .entry)) (now (loops .entry)) (now (heads .entry)) (now (rows .entry)) (now (out .entry)) (now (length .entry)) r (now (length .exit)) (now (place .exit)) (now (second .exit)) (now (out .exit)) ⌝ }
 {
-    let answer = bolgverk::write(policy, ways, sets, nodes, edges, loops, heads, rows, out);
+    let answer = bolgverk::write(
+        version,
+        policy,
+        ways,
+        sets,
+        nodes,
+        edges,
+        loops,
+        heads,
+        rows,
+        out,
+    );
     telling::write(answer, length, place, second)
 }
 

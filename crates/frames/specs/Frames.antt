@@ -183,11 +183,12 @@ module _ (r : List ℕ) where
   abbrev pub bytesFrom : ℕ
   bytesFrom = rowsFrom + 2 * u32At r Places.writeRows
 
-  -- the lists, whatever they are, with the cache that the arguments name
+  -- the lists, whatever they are, with the version and the cache that the arguments name
   abbrev pub contentWith : List ℕ → List ℕ → List ℕ → List ℕ → List ℕ → FileContent
   contentWith nodes edges loops heads rows =
       record {
-        policy = u8At r 0;
+        version = u8At r 0;
+        policy = u8At r Places.writePolicy;
         ways = u8At r Places.writeWays;
         sets = u8At r Places.writeSets;
         nodes = nodes;

@@ -94,33 +94,36 @@ checkFields = bits32 ∷ bits32 ∷ []
 abbrev pub checkNumbers : ℕ
 checkNumbers = offset checkFields 1
 
--- "policy u8, ways u8, sets u8, six counts u32 each: how many numbers there are in nodes, edges, loops, heads and rows, and how many bytes m are lent"
+-- "version u8, policy u8, ways u8, sets u8, six counts u32 each: how many numbers there are in nodes, edges, loops, heads and rows, and how many bytes m are lent"
 abbrev pub writeFields : List ℕ
-writeFields = bits8 ∷ bits8 ∷ bits8 ∷ bits32 ∷ bits32 ∷ bits32 ∷ bits32 ∷ bits32 ∷ bits32 ∷ []
+writeFields = bits8 ∷ bits8 ∷ bits8 ∷ bits8 ∷ bits32 ∷ bits32 ∷ bits32 ∷ bits32 ∷ bits32 ∷ bits32 ∷ []
+
+abbrev pub writePolicy : ℕ
+writePolicy = offset writeFields 1
 
 abbrev pub writeWays : ℕ
-writeWays = offset writeFields 1
+writeWays = offset writeFields 2
 
 abbrev pub writeSets : ℕ
-writeSets = offset writeFields 2
+writeSets = offset writeFields 3
 
 abbrev pub writeNodes : ℕ
-writeNodes = offset writeFields 3
+writeNodes = offset writeFields 4
 
 abbrev pub writeEdges : ℕ
-writeEdges = offset writeFields 4
+writeEdges = offset writeFields 5
 
 abbrev pub writeLoops : ℕ
-writeLoops = offset writeFields 5
+writeLoops = offset writeFields 6
 
 abbrev pub writeHeads : ℕ
-writeHeads = offset writeFields 6
+writeHeads = offset writeFields 7
 
 abbrev pub writeRows : ℕ
-writeRows = offset writeFields 7
+writeRows = offset writeFields 8
 
 abbrev pub writeLent : ℕ
-writeLent = offset writeFields 8
+writeLent = offset writeFields 9
 
 -- "scope u16, block u16, file bytes n u32, numbers m u32"
 abbrev pub findFields : List ℕ

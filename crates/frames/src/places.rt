@@ -44,7 +44,7 @@ pub const TRACE_SIZE: usize = 11;
 
 pub const CHECK_SIZE: usize = 8;
 
-pub const WRITE_SIZE: usize = 27;
+pub const WRITE_SIZE: usize = 28;
 
 pub const FIND_SIZE: usize = 12;
 
@@ -73,21 +73,23 @@ pub const TRACE_MARKS: usize = 7;
 
 pub const CHECK_NUMBERS: usize = 4;
 
-pub const WRITE_WAYS: usize = 1;
+pub const WRITE_POLICY: usize = 1;
 
-pub const WRITE_SETS: usize = 2;
+pub const WRITE_WAYS: usize = 2;
 
-pub const WRITE_NODES: usize = 3;
+pub const WRITE_SETS: usize = 3;
 
-pub const WRITE_EDGES: usize = 7;
+pub const WRITE_NODES: usize = 4;
 
-pub const WRITE_LOOPS: usize = 11;
+pub const WRITE_EDGES: usize = 8;
 
-pub const WRITE_HEADS: usize = 15;
+pub const WRITE_LOOPS: usize = 12;
 
-pub const WRITE_ROWS: usize = 19;
+pub const WRITE_HEADS: usize = 16;
 
-pub const WRITE_LENT: usize = 23;
+pub const WRITE_ROWS: usize = 20;
+
+pub const WRITE_LENT: usize = 24;
 
 pub const FIND_BLOCK: usize = 2;
 

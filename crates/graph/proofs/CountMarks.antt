@@ -1,25 +1,25 @@
 -- The table of counts, loop by loop, and rule 10 by it.
 use Prim.Native.Nat.{ℕ, zero, suc, _≤_, _<_}
 use native.Mathlib.Omega.{arith}
-use native.Mathlib.Nat.{mul-pos}
 use native.Mathlib.Decide.{decLe}
 use mathlib.Core.Path.{_≡_, refl, sym, _∙_, ap}
-use mathlib.Core.Bool.{Bool, true, false, cond}
+use mathlib.Core.Bool.{Bool}
 use borrow.Author.Tests.{lt-ltb, le-ltb, ne-eqb}
 use mathlib.Core.List.{List}
 use lib.Dec.{eqb, lit≤}
 use lib.ListN.{getD}
 use Rattle.paper.specs.declared.Trailer.{Trailer}
-use Rattle.paper.specs.Lists.{productTo, least}
+use Rattle.paper.specs.Lists.{chain, least}
 use Rattle.paper.specs.Cases.{Case, inside}
-use Rattle.paper.specs.Graphs.{count, badCount}
+use Rattle.paper.specs.Graphs.{innermost, count, badCount}
 use Rattle.paper.specs.Files.{caseOf}
 use Rattle.paper.proofs.Least.{least-same, none-some}
 use Rattle.paper.proofs.Says.{Says, holds, fails, says-false}
 use Rattle.paper.proofs.Meaning.{In}
 use Rattle.paper.proofs.GraphLaws.{inside-says, count-says}
+use Rattle.paper.proofs.Nests.{visits-pos}
 use Rattle.layout.specs.Counted.{Counted}
-use Rattle.loops.specs.Counts.{shown, factor, countTo}
+use Rattle.loops.specs.Counts.{shown, countTo}
 use Rattle.loops.proofs.Shown.{shown-small, shown-large}
 use Rattle.loops.proofs.Headers.{count-out, count-same}
 use Rattle.graph.specs.Filled.{Holds}
@@ -28,19 +28,10 @@ use Rattle.graph.specs.Marks.{loopMark, marks, markedTo}
 use Rattle.paper.proofs.RuleLaws.{keeps}
 use Rattle.graph.proofs.Marking.{marked-start, marked-in, marked-out}
 
-product-pos : (g : ℕ → ℕ) (n : ℕ) → ((j : ℕ) → j < n → 0 < g j) → 0 < productTo g n
-unfolding productTo
-product-pos g zero h = omega arith
-product-pos g (suc n) h = mul-pos (product-pos g n (λ j q. h j (omega arith))) (h n (omega arith))
-
 module _ (e : Case) (w : Shaped e) where
   count-pos : (v : ℕ) → 0 < count e v
-  unfolding count
-  count-pos v = product-pos (λ j. factor (e .loop j) v) (e .loops) (λ j q. pick (inside (e .loop j) v) (omega (arith, w .fits j q)))
-    where
-      pick : {b : ℕ} (s : Bool) → 0 < b → 0 < cond s b 1
-      pick true h = h
-      pick false h = omega arith
+  unfolding count innermost
+  count-pos v = visits-pos e (λ j q. w .fits j q .2) (w .limited) (λ j. inside (e .loop j) v) (e .loops) (omega arith)
 
   -- rule 10 by the table
   count-test : (v : ℕ) → eqb (shown (count e v)) 0 ≡ badCount e v
@@ -55,7 +46,7 @@ module _ (e : Case) (w : Shaped e) where
 
   -- the marks of rule 10 are the counts
   count-marks : (v n : ℕ) → n ≤ e .loops → markedTo (marks e 10) 1 v n ≡ shown (countTo e v n)
-  unfolding countTo productTo marks loopMark
+  unfolding countTo chain marks loopMark
   count-marks v zero h = marked-start _ 1 v ∙ sym (shown-small 1 (lit≤ tt))
   count-marks v (suc n) h = go (inside-says (e .loop n) v) (count-marks v n (omega arith))
     where
@@ -68,7 +59,7 @@ module _ (e : Case) (w : Shaped e) where
 module _ (f : List ℕ) (trailer : Trailer) (w : Shaped (caseOf f trailer)) (l : List ℕ)
     (h : Holds (λ v. markedTo (marks (caseOf f trailer) 10) 1 v (trailer .loops)) (trailer .nodes) l) where
   shows : (v : ℕ) → v < trailer .nodes → getD l v 0 ≡ shown (count (caseOf f trailer) v)
-  unfolding caseOf countTo count
+  unfolding caseOf countTo count innermost
   shows v q = h .at v q ∙ count-marks (caseOf f trailer) w v (trailer .loops) (omega arith)
 
   pub least-count : (i : ℕ) → i ≡ least (λ v. eqb (getD l v 0) 0) (trailer .nodes) → i ≡ least (badCount (caseOf f trailer)) (trailer .nodes)

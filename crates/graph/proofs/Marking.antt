@@ -14,7 +14,7 @@ use Rattle.paper.specs.declared.Loop.{Loop}
 use Rattle.paper.specs.Cases.{Case}
 use Rattle.paper.specs.Files.{caseOf}
 use Rattle.paper.proofs.Says.{Says, holds, fails, says-lt, says-le, says-and, says-is, says-false}
-use Rattle.loops.specs.Counts.{shown, noLoop, countIn}
+use Rattle.loops.specs.Counts.{noLoop, countIn}
 use Rattle.loops.specs.Handed.{Handed}
 use Rattle.loops.proofs.Handing.{handed-header}
 use Rattle.graph.specs.declared.marks.Mark.{Mark}
@@ -93,11 +93,11 @@ mark-fits e w rule j x q p =
     ]
 
 -- the mark that is made from the records, where n is the header's count if the rule asks for it
-pub handed-mark : (f : List ℕ) (trailer : Trailer) (loops : List Loop) (rule j n : ℕ) (x : Mark) → Handed f trailer loops → j < trailer .loops →
-    (rule ≡ 10 → n ≡ shown (countIn loops (suc j) (getD loops j noLoop .first))) → x ≡ loopMark rule (getD loops j noLoop) n → x ≡ marks (caseOf f trailer) rule j
+pub handed-mark : (f : List ℕ) (trailer : Trailer) (loops : List Loop) (rule j n : ℕ) (x : Mark) → Handed f trailer loops → Shaped (caseOf f trailer) → j < trailer .loops →
+    (rule ≡ 10 → n ≡ countIn loops (suc j) (getD loops j noLoop .first)) → x ≡ loopMark rule (getD loops j noLoop) n → x ≡ marks (caseOf f trailer) rule j
 unfolding marks loopMark caseOf
-handed-mark f trailer loops rule j n x w q h e =
+handed-mark f trailer loops rule j n x w s q h e =
     elim (ℕ-discrete rule 10) [
-      | yes p ↦ e ∙ rw (h p, handed-header f trailer loops w j q, w .at j q) refl
+      | yes p ↦ e ∙ rw (h p, handed-header f trailer loops w s j q, w .at j q) refl
       | no k ↦ e ∙ rw (ne-eqb rule 10 k, w .at j q) refl
     ]

@@ -40,7 +40,8 @@ fn wrong_loop(file: &[u8], trailer: Trailer, i: u16, h: u16, l: Loop) -> bool
         | ((trailer.nodes <= l.last)
             | ((l.bound < 1)
                 | ((1000000 < l.bound)
-                    | (((0 < i) & (l.first <= h)) | (crossed(file, trailer, i, l) < i)))))
+                    | ((l.visits < 1)
+                        | (((0 < i) & (l.first <= h)) | (crossed(file, trailer, i, l) < i))))))
 }
 
 // The least loop that breaks rule 7, or their number.

@@ -1,2 +1,3 @@
+pub mod LoopPlaces
 pub mod Laws
 pub mod Pack

@@ -81,7 +81,7 @@ fn bad_letters(file: &[u8]) -> bool
     ensures { λ r. ⌜ r ≡ Files.badLetters (now (file .entry)) ⌝ }
 {
     let end = end_of(file);
-    (wrong_letter(file) < 4) | !(file[end + VERSION_FIELD] == 1)
+    (wrong_letter(file) < 4) | paper::is_bad_version(file[end + VERSION_FIELD])
 }
 
 fn trailer_of(file: &[u8]) -> Trailer
@@ -97,6 +97,7 @@ fn trailer_of(file: &[u8]) -> Trailer
         policy: file[end + POLICY_FIELD],
         ways: file[end + WAYS_FIELD],
         sets: file[end + SETS_FIELD],
+        version: file[end + VERSION_FIELD],
     }
 }
 

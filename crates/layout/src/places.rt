@@ -7,6 +7,7 @@ ghost use Rattle.paper.specs.Files as Files;
 ghost use Rattle.paper.specs.Records as Records;
 use paper::Loop;
 use paper::Trailer;
+use paper::WITHOUT_W;
 
 // Sizes of the records, in bytes.
 pub const NODE_SIZE: usize = 2;
@@ -14,6 +15,8 @@ pub const NODE_SIZE: usize = 2;
 pub const EDGE_SIZE: usize = 4;
 
 pub const LOOP_SIZE: usize = 8;
+
+pub const WIDEST_LOOP: usize = 12;
 
 pub const HEAD_SIZE: usize = 6;
 
@@ -27,6 +30,8 @@ pub const TO_FIELD: usize = 2;
 pub const LAST_FIELD: usize = 2;
 
 pub const BOUND_FIELD: usize = 4;
+
+pub const VISITS_FIELD: usize = 8;
 
 pub const BLOCK_FIELD: usize = 2;
 
@@ -93,10 +98,21 @@ pub fn loops_at(trailer: Trailer) -> usize
     edge_place(trailer, trailer.edges)
 }
 
+// "Version 2 of the case file gives each loop a further 32-bit number W"
+pub fn loop_size(version: u8) -> usize
+    ensures { λ r. ⌜ r ≡ Records.loopSize version ⌝ }
+    ensures { λ r. ⌜ r ≤ Records.sizeOf Records.widestLoop ⌝ }
+{
+    if version == WITHOUT_W {
+        return LOOP_SIZE;
+    }
+    WIDEST_LOOP
+}
+
 pub fn loop_place(trailer: Trailer, j: u16) -> usize
     ensures { λ r. ⌜ r ≡ Files.loopPlace trailer j ⌝ }
 {
-    loops_at(trailer) + LOOP_SIZE * (j as usize)
+    loops_at(trailer) + loop_size(trailer.version) * (j as usize)
 }
 
 pub fn facts_at(trailer: Trailer) -> usize

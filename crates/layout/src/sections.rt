@@ -10,11 +10,14 @@ use crate::bytes::u32_at;
 use crate::places::BOUND_FIELD;
 use crate::places::LAST_FIELD;
 use crate::places::TO_FIELD;
+use crate::places::VISITS_FIELD;
 use crate::places::edge_place;
 use crate::places::loop_place;
 use crate::places::node_place;
 use paper::Loop;
 use paper::Trailer;
+use paper::UNLIMITED;
+use paper::WITHOUT_W;
 
 pub fn node_at(file: &[u8], trailer: Trailer, v: u16) -> u16
     requires { ⌜ Laid (now file) trailer ⌝ }
@@ -40,6 +43,18 @@ pub fn to_at(file: &[u8], trailer: Trailer, i: u16) -> u16
     u16_at(file, edge_place(trailer, i) + TO_FIELD)
 }
 
+// "Version 1 is read as without W"
+fn visits_at(file: &[u8], trailer: Trailer, j: u16) -> u32
+    requires { ⌜ Laid (now file) trailer ⌝ }
+    requires { ⌜ j < trailer .loops ⌝ }
+    ensures { λ r. ⌜ r ≡ Files.loopAt (now (file .entry)) trailer j .visits ⌝ }
+{
+    if trailer.version == WITHOUT_W {
+        return UNLIMITED;
+    }
+    u32_at(file, loop_place(trailer, j) + VISITS_FIELD)
+}
+
 pub fn loop_at(file: &[u8], trailer: Trailer, j: u16) -> Loop
     requires { ⌜ Laid (now file) trailer ⌝ }
     requires { ⌜ j < trailer .loops ⌝ }
@@ -50,6 +65,7 @@ pub fn loop_at(file: &[u8], trailer: Trailer, j: u16) -> Loop
         first: u16_at(file, at),
         last: u16_at(file, at + LAST_FIELD),
         bound: u32_at(file, at + BOUND_FIELD),
+        visits: visits_at(file, trailer, j),
     }
 }
 
@@ -63,6 +79,7 @@ pub fn range_at(file: &[u8], trailer: Trailer, w: u16) -> Loop
             first: 0,
             last: trailer.nodes - 1,
             bound: 1,
+            visits: UNLIMITED,
         };
     }
     loop_at(file, trailer, w)

@@ -1,3 +1,4 @@
+pub mod LoopNumbers
 pub mod Slots
 pub mod Turning
 pub mod Walk

@@ -45,7 +45,7 @@ hands-rules c = hands-then (shapeRules (caseIn c)) _ (hands-shape (caseIn c)) (h
 module _ (c : FileContent) where
   -- by the content's own numbers
   shape-is : (rest : Verdict) → shapeRules (caseIn c) rest ≡ shapeOf (trailerIn c) (c .edges) (c .loops) rest
-  unfolding shapeRules badEdge badLoop caseIn loopIn
+  unfolding shapeRules badEdge badLoop caseIn loopIn trailerIn
   shape-is rest = refl
 
   turn-is : (i : ℕ) (previous : Previous) (rest : Verdict) → writtenTurn c i previous rest ≡ turn (trailerIn c) (c .loops) (c .heads) (c .rows) i previous rest
@@ -53,7 +53,7 @@ module _ (c : FileContent) where
   turn-is i previous rest = refl
 
   previous-is : (i : ℕ) → previousOf (caseIn c) (caseIn c .fact i) ≡ previousOf (factCase (trailerIn c) (c .loops) (c .heads) (c .rows)) (factCase (trailerIn c) (c .loops) (c .heads) (c .rows) .fact i)
-  unfolding caseIn loopIn
+  unfolding caseIn loopIn trailerIn
   previous-is i = refl
 
   facts-are : (rest : Verdict) → writtenFacts c rest ≡ turns (trailerIn c) (c .loops) (c .heads) (c .rows) rest
@@ -77,11 +77,12 @@ module _ (c : FileContent) where
           ∙ sym (accepted-on (shapeRules (caseIn c)) (hands-shape (caseIn c)) (writtenFacts c Accepted) v shaped-by q)
 
       pub judged : Facts t (c .loops) (c .heads) (c .rows)
-      unfolding caseIn loopIn rowsNamed
+      unfolding trailerIn caseIn loopIn rowsNamed
       judged =
           let s = shape-kept (caseIn c) Accepted (sym shaped-by ∙ q) .0 in
           let e : t .loops ≡ trailerIn c .loops = ap (λ (u : Trailer). u .loops) (k .is) in
           let n : t .nodes ≡ trailerIn c .nodes = ap (λ (u : Trailer). u .nodes) (k .is) in
+          let v : t .version ≡ c .version = ap (λ (u : Trailer). u .version) (k .is) in
           record {
             nodes-low = k .nodes-low;
             nodes-high = k .nodes-high;
@@ -90,5 +91,5 @@ module _ (c : FileContent) where
             rows-whole = k .rows;
             sets-low = k .sets-low;
             sets-high = k .sets-high;
-            fits = λ j l. let w = s .fits j (omega arith) in (w .0, omega (arith, w .1));
+            fits = λ j l. let w = s .fits j (omega arith) in rw v (w .0, omega (arith, w .1));
           }

@@ -115,12 +115,12 @@ module _ (t : Trailer) (loops heads rows : List ℕ) (i : ℕ) where
   unfolding badHead
   head-is = refl
 
-  scope-is : (r : Loop) → r ≡ rangeOf (t .nodes) (loopAt loops) (getD heads (4 * i) 0) → r ≡ scopeOf (factCase t loops heads rows) (fact t loops heads rows i)
+  scope-is : (r : Loop) → r ≡ rangeOf (t .nodes) (loopAt (t .version) loops) (getD heads (4 * i) 0) → r ≡ scopeOf (factCase t loops heads rows) (fact t loops heads rows i)
   unfolding loopIn
   scope-is r a = a
 
   pub order-is :
-      (r : Loop) → r ≡ rangeOf (t .nodes) (loopAt loops) (getD heads (4 * i) 0) → (previous : Previous) →
+      (r : Loop) → r ≡ rangeOf (t .nodes) (loopAt (t .version) loops) (getD heads (4 * i) 0) → (previous : Previous) →
       wrongOrder previous (getD heads (4 * i + 1) 0) (r .first) ≡ badOrder (factCase t loops heads rows) previous (fact t loops heads rows i)
   unfolding badOrder
   order-is r a previous = ap (λ (s : Loop). wrongOrder previous (getD heads (4 * i + 1) 0) (s .first)) (scope-is r a)
@@ -130,7 +130,7 @@ module _ (t : Trailer) (loops heads rows : List ℕ) (i : ℕ) where
     pub named : getD heads (4 * i) 0 ≢ none → getD heads (4 * i) 0 < t .loops
     named q = head-sound (factCase t loops heads rows) (fact t loops heads rows i) e .scope q
 
-    fits-at : Facts t loops heads rows → let r = rangeOf (t .nodes) (loopAt loops) (getD heads (4 * i) 0) in (r .first ≤ r .last) × (r .last < t .nodes)
+    fits-at : Facts t loops heads rows → let r = rangeOf (t .nodes) (loopAt (t .version) loops) (getD heads (4 * i) 0) in (r .first ≤ r .last) × (r .last < t .nodes)
     unfolding rangeOf
     fits-at known =
         elim (ℕ-discrete (getD heads (4 * i) 0) none) [
@@ -139,7 +139,7 @@ module _ (t : Trailer) (loops heads rows : List ℕ) (i : ℕ) where
         ]
 
     pub stands :
-        Facts t loops heads rows → (r : Loop) → r ≡ rangeOf (t .nodes) (loopAt loops) (getD heads (4 * i) 0) → (p home : ℕ) → p ≡ before t loops heads rows i →
+        Facts t loops heads rows → (r : Loop) → r ≡ rangeOf (t .nodes) (loopAt (t .version) loops) (getD heads (4 * i) 0) → (p home : ℕ) → p ≡ before t loops heads rows i →
         home ≡ getD heads (4 * i + 1) 0 % t .sets →
         Stands t loops heads rows i
         (record { place = p; first = r .first; last = r .last; block = getD heads (4 * i + 1) 0; limit = getD heads (4 * i + 2) 0; home = home })

@@ -11,15 +11,17 @@ use Rattle.paper.specs.Shifts.{setsOf}
 use Rattle.paper.specs.Cases.{Row, Fact, Case}
 use Rattle.paper.specs.declared.Verdict.{Verdict}
 use Rattle.paper.specs.Graphs.{badEdge, badLoop}
+use Rattle.paper.specs.Files.{visitsBy}
 use Rattle.paper.specs.Rules.{ruleAt}
 use Rattle.paper.specs.Ceilings.{mostNodes, mostEdges, mostLoops, mostFacts}
-use Rattle.paper.specs.Writing.{FileContent, trailerIn, loopIn, rowsBefore, factIn, badLists}
+use Rattle.paper.specs.Writing.{FileContent, perLoop, trailerIn, loopIn, rowsBefore, factIn, badLists}
 use Rattle.evidence.specs.declared.Head.{Head}
 
 -- the lists, and the trailer's word for the cache
 abbrev pub content : Trailer → List ℕ → List ℕ → List ℕ → List ℕ → List ℕ → FileContent
 content t nodes edges loops heads rows =
     record {
+      version = t .version;
       policy = t .policy;
       ways = t .ways;
       sets = t .sets;
@@ -31,9 +33,9 @@ content t nodes edges loops heads rows =
     }
 
 -- the lists alone, for rule 4
-abbrev pub plain : List ℕ → List ℕ → List ℕ → List ℕ → List ℕ → FileContent
-plain nodes edges loops heads rows =
-    record { policy = 0; ways = 0; sets = 0; nodes = nodes; edges = edges; loops = loops; heads = heads; rows = rows }
+abbrev pub plain : ℕ → List ℕ → List ℕ → List ℕ → List ℕ → List ℕ → FileContent
+plain version nodes edges loops heads rows =
+    record { version = version; policy = 0; ways = 0; sets = 0; nodes = nodes; edges = edges; loops = loops; heads = heads; rows = rows }
 
 -- The case that the lists tell of. What a rule does not look at is left out: an empty list, and no blocks.
 abbrev pub told : Trailer → List ℕ → List ℕ → List ℕ → List ℕ → Case
@@ -67,8 +69,14 @@ abbrev pub shapeOf : Trailer → List ℕ → List ℕ → Verdict → Verdict
 shapeOf t edges loops rest = ruleAt 6 (badEdge (edgeCase t edges)) (t .edges) (ruleAt 7 (badLoop (loopCase t loops)) (t .loops) rest)
 
 -- loop j of the list
-abbrev pub loopAt : List ℕ → ℕ → Loop
-loopAt loops j = record { first = getD loops (3 * j) 0; last = getD loops (3 * j + 1) 0; bound = getD loops (3 * j + 2) 0 }
+abbrev pub loopAt : ℕ → List ℕ → ℕ → Loop
+loopAt version loops j =
+    record {
+      first = getD loops (perLoop version * j) 0;
+      last = getD loops (perLoop version * j + 1) 0;
+      bound = getD loops (perLoop version * j + 2) 0;
+      visits = visitsBy version (getD loops (perLoop version * j + 3) 0);
+    }
 
 -- the row whose eight numbers stand from `at` on
 abbrev pub rowAt : List ℕ → ℕ → Row
@@ -96,13 +104,13 @@ pub record Judged (t : Trailer) (sets : Sets) (h : Head) : Type 0 where
   pub count : sets .count ≡ t .sets
   pub home : h .home ≡ h .block % t .sets
 
--- Rules 3 and 4 are passed: the lists are whole and the numbers small.
+-- Rules 2 to 4 are passed: the lists are whole and the numbers small.
 pub record Listed (c : FileContent) (t : Trailer) : Type 0 where
   pub is : t ≡ trailerIn c
   pub lists : badLists c ≡ false
   pub nodes : length (c .nodes) ≡ t .nodes
   pub edges : length (c .edges) ≡ 2 * t .edges
-  pub loops : length (c .loops) ≡ 3 * t .loops
+  pub loops : length (c .loops) ≡ perLoop (t .version) * t .loops
   pub heads : length (c .heads) ≡ 4 * t .facts
   pub rows : length (c .rows) ≡ 8 * rowsBefore c (t .facts)
   pub nodes-low : 1 ≤ t .nodes
@@ -113,13 +121,13 @@ pub record Listed (c : FileContent) (t : Trailer) : Type 0 where
   pub sets-low : 0 < t .sets
   pub sets-high : t .sets ≤ 64
 
--- What is known when the facts are judged: rules 3, 4 and 7 are passed.
+-- What is known when the facts are judged: rules 2 to 4 and 7 are passed.
 pub record Facts (t : Trailer) (loops heads rows : List ℕ) : Type 0 where
   pub nodes-low : 1 ≤ t .nodes
   pub nodes-high : t .nodes ≤ mostNodes
-  pub loops-whole : length loops ≡ 3 * t .loops
+  pub loops-whole : length loops ≡ perLoop (t .version) * t .loops
   pub heads-whole : length heads ≡ 4 * t .facts
   pub rows-whole : length rows ≡ 8 * rowsBefore (content t [] [] [] heads rows) (t .facts)
   pub sets-low : 0 < t .sets
   pub sets-high : t .sets ≤ 64
-  pub fits : (j : ℕ) → j < t .loops → (getD loops (3 * j) 0 ≤ getD loops (3 * j + 1) 0) × (getD loops (3 * j + 1) 0 < t .nodes)
+  pub fits : (j : ℕ) → j < t .loops → (loopAt (t .version) loops j .first ≤ loopAt (t .version) loops j .last) × (loopAt (t .version) loops j .last < t .nodes)

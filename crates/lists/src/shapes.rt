@@ -4,7 +4,10 @@ ghost use Prim.Native.Nat.{_*_, _≤_, _<_};
 ghost use lib.ListN.{length};
 ghost use Rattle.paper.specs.Lists.{least};
 ghost use Rattle.paper.specs.Graphs as Graphs;
+ghost use Rattle.paper.specs.Writing.{perLoop};
 ghost use Rattle.lists.specs.Listed.{edgeCase, loopCase, shapeOf, loopAt};
+use crate::numbers::loop_number;
+use crate::numbers::visits_of;
 use paper::MOST_BOUND;
 use paper::Trailer;
 use paper::Verdict;
@@ -31,14 +34,23 @@ fn first_bad_edge(trailer: Trailer, edges: &[u16]) -> u16
     i
 }
 
-// The first of the i loops before that one from `first` to `last` crosses, or i.
-fn crossed(loops: &[u32], i: u16, first: u32, last: u32, bound: u32) -> u16
-    requires { ⌜ 3 * i ≤ length (now loops) ⌝ }
-    ensures { λ r. ⌜ r ≡ least (λ j. Graphs.crosses (loopAt (now (loops .entry)) j) (record { first = first; last = last; bound = bound })) i ⌝ }
+// The first of the i loops before that one from `first` to `last` crosses, or i. (Its bound and W are handed on for the contract.)
+fn crossed(
+    trailer: Trailer,
+    loops: &[u32],
+    i: u16,
+    first: u32,
+    last: u32,
+    bound: u32,
+    visits: u32,
+) -> u16
+    requires { ⌜ length (now loops) ≡ perLoop (trailer .version) * trailer .loops ⌝ }
+    requires { ⌜ i < trailer .loops ⌝ }
+    ensures { λ r. ⌜ r ≡ least (λ j. Graphs.crosses (loopAt (trailer .version) (now (loops .entry)) j) (record { first = first; last = last; bound = bound; visits = visits })) i ⌝ }
 {
     let mut j: u16 = 0;
     while j < i {
-        let end = loops[3 * (j as usize) + 1];
+        let end = loop_number(trailer, loops, j, 1);
         if (first <= end) & (end < last) {
             return j;
         }
@@ -48,36 +60,42 @@ fn crossed(loops: &[u32], i: u16, first: u32, last: u32, bound: u32) -> u16
 }
 
 // Rule 7 for loop i, from `first` to `last`; h is the header of the loop before. (A loop's ends are tested as they are handed over, 32 bits wide.)
-fn wrong_loop(nodes: u16, loops: &[u32], i: u16, h: u32, first: u32, last: u32, bound: u32) -> bool
-    requires { ⌜ 3 * i ≤ length (now loops) ⌝ }
-    ensures { λ r. ⌜ r ≡ Graphs.wrongLoop nodes (loopAt (now (loops .entry))) i h (record { first = first; last = last; bound = bound }) ⌝ }
+fn wrong_loop(
+    trailer: Trailer,
+    loops: &[u32],
+    i: u16,
+    h: u32,
+    first: u32,
+    last: u32,
+    bound: u32,
+    visits: u32,
+) -> bool
+    requires { ⌜ length (now loops) ≡ perLoop (trailer .version) * trailer .loops ⌝ }
+    requires { ⌜ i < trailer .loops ⌝ }
+    ensures { λ r. ⌜ r ≡ Graphs.wrongLoop (trailer .nodes) (loopAt (trailer .version) (now (loops .entry))) i h (record { first = first; last = last; bound = bound; visits = visits }) ⌝ }
 {
     (last < first)
-        | ((nodes as u32 <= last)
+        | ((trailer.nodes as u32 <= last)
             | ((bound < 1)
                 | ((MOST_BOUND < bound)
-                    | (((0 < i) & (first <= h)) | (crossed(loops, i, first, last, bound) < i)))))
+                    | ((visits < 1)
+                        | (((0 < i) & (first <= h))
+                            | (crossed(trailer, loops, i, first, last, bound, visits) < i))))))
 }
 
 // The least loop that breaks rule 7, or their number.
 fn first_bad_loop(trailer: Trailer, loops: &[u32]) -> u16
-    requires { ⌜ length (now loops) ≡ 3 * trailer .loops ⌝ }
+    requires { ⌜ length (now loops) ≡ perLoop (trailer .version) * trailer .loops ⌝ }
     ensures { λ r. ⌜ r ≡ least (Graphs.badLoop (loopCase trailer (now (loops .entry)))) (trailer .loops) ⌝ }
 {
     let mut i: u16 = 0;
     let mut h: u32 = 0;
     while i < trailer.loops {
-        let at = 3 * (i as usize);
-        let first = loops[at];
-        if wrong_loop(
-            trailer.nodes,
-            loops,
-            i,
-            h,
-            first,
-            loops[at + 1],
-            loops[at + 2],
-        ) {
+        let first = loop_number(trailer, loops, i, 0);
+        let last = loop_number(trailer, loops, i, 1);
+        let bound = loop_number(trailer, loops, i, 2);
+        let visits = visits_of(trailer, loops, i);
+        if wrong_loop(trailer, loops, i, h, first, last, bound, visits) {
             return i;
         }
         h = first;
@@ -89,7 +107,7 @@ fn first_bad_loop(trailer: Trailer, loops: &[u32]) -> u16
 // 6 and 7
 pub fn shape_rules(trailer: Trailer, edges: &[u16], loops: &[u32]) -> Verdict
     requires { ⌜ length (now edges) ≡ 2 * trailer .edges ⌝ }
-    requires { ⌜ length (now loops) ≡ 3 * trailer .loops ⌝ }
+    requires { ⌜ length (now loops) ≡ perLoop (trailer .version) * trailer .loops ⌝ }
     ensures { λ r. ⌜ r ≡ shapeOf trailer (now (edges .entry)) (now (loops .entry)) Verdict.Accepted ⌝ }
 {
     let edge = first_bad_edge(trailer, edges);

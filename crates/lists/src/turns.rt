@@ -6,6 +6,8 @@ ghost use lib.ListN.{length, getD};
 ghost use Rattle.paper.specs.Cases as Cases;
 ghost use Rattle.lists.specs.Listed.{loopAt, Facts};
 ghost use Rattle.lists.specs.Turns as Turns;
+use crate::numbers::loop_number;
+use crate::numbers::visits_of;
 use crate::rows::bad_rows;
 use evidence::Head;
 use facts::Kept;
@@ -13,26 +15,28 @@ use facts::Turn;
 use paper::Loop;
 use paper::Previous;
 use paper::Trailer;
+use paper::UNLIMITED;
 use paper::Verdict;
 
 // The scope with the number w.
 fn range_of(trailer: Trailer, loops: &[u32], heads: &[u16], rows: &[u16], w: u16) -> Loop
     requires { ⌜ Facts trailer (now loops) (now heads) (now rows) ⌝ }
     requires { ⌜ (w ≢ 65535 → w < trailer .loops) ⌝ }
-    ensures { λ r. ⌜ r ≡ Cases.rangeOf (trailer .nodes) (loopAt (now (loops .entry))) w ⌝ }
+    ensures { λ r. ⌜ r ≡ Cases.rangeOf (trailer .nodes) (loopAt (trailer .version) (now (loops .entry))) w ⌝ }
 {
     if w == 65535 {
         return Loop {
             first: 0,
             last: trailer.nodes - 1,
             bound: 1,
+            visits: UNLIMITED,
         };
     }
-    let at = 3 * (w as usize);
     Loop {
-        first: loops[at] as u16,
-        last: loops[at + 1] as u16,
-        bound: loops[at + 2],
+        first: loop_number(trailer, loops, w, 0) as u16,
+        last: loop_number(trailer, loops, w, 1) as u16,
+        bound: loop_number(trailer, loops, w, 2),
+        visits: visits_of(trailer, loops, w),
     }
 }
 

@@ -9,9 +9,10 @@ use lib.Seq.{getD-set-same, getD-set-other}
 use Rattle.paper.specs.declared.Loop.{Loop}
 use Rattle.paper.specs.declared.Trailer.{Trailer}
 use Rattle.paper.specs.Files.{loopAt, caseOf}
-use Rattle.loops.specs.Counts.{noLoop, countTo, countIn}
+use Rattle.paper.specs.Known.{Shaped}
+use Rattle.loops.specs.Counts.{noLoop, countTo, shown, countIn}
 use Rattle.loops.specs.Handed.{Handed}
-use Rattle.loops.proofs.Shown.{counts-agree}
+use Rattle.loops.proofs.Shown.{counts-shown}
 
 -- the first k of the file's loops are read
 pub record Read (f : List ℕ) (trailer : Trailer) (k : ℕ) (loops : List Loop) : Type 0 where
@@ -40,13 +41,10 @@ module _ (f : List ℕ) (trailer : Trailer) where
   read-end k loops w h = record { room = w .room; at = λ j q. w .at j (omega arith) }
 
   module _ (loops : List Loop) (w : Handed f trailer loops) where
-    -- a count over the records is one over the case's loops
-    handed-count : (v n : ℕ) → n ≤ trailer .loops → countIn loops n v ≡ countTo (caseOf f trailer) v n
-    unfolding countTo caseOf
-    handed-count v n h = counts-agree loops (loopAt f trailer) n v (λ j q. w .at j (omega arith))
-
-    -- and so is that of loop j's header
-    pub handed-header : (j : ℕ) → j < trailer .loops
-        → countIn loops (suc j) (getD loops j noLoop .first) ≡ countTo (caseOf f trailer) (caseOf f trailer .loop j .first) (suc j)
+    -- what is counted over the records is shown of the count over the case's loops, where limits are above 0
+    pub handed-header : Shaped (caseOf f trailer) → (j : ℕ) → j < trailer .loops
+        → countIn loops (suc j) (getD loops j noLoop .first) ≡ shown (countTo (caseOf f trailer) (caseOf f trailer .loop j .first) (suc j))
     unfolding caseOf
-    handed-header j q = rw (w .at j q) (handed-count (loopAt f trailer j .first) (suc j) q)
+    handed-header s j q =
+        rw (w .at j q)
+        (counts-shown (caseOf f trailer) (λ i h. s .fits i h .2) (s .limited) loops (loopAt f trailer j .first) (suc j) q (λ i h. w .at i (omega arith)))

@@ -1,22 +1,20 @@
 -- Where headers rise and two loops are nested or apart, all nodes of a loop have one count over the loops up to it.
 use Prim.Native.Nat.{ℕ, suc, _≤_, _<_}
 use native.Mathlib.Omega.{arith}
-use native.Mathlib.Nat.{mul-one}
-use mathlib.Core.Path.{_≡_, refl, ap}
-use mathlib.Core.Bool.{Bool, cond}
-use Rattle.paper.specs.Lists.{productTo}
+use mathlib.Core.Path.{_≡_, refl}
+use Rattle.paper.specs.Lists.{chain}
 use Rattle.paper.specs.Cases.{Case, inside}
 use Rattle.paper.proofs.Says.{says-is, says-false, says-same}
 use Rattle.paper.proofs.Meaning.{In}
 use Rattle.paper.proofs.GraphLaws.{inside-says}
 use Rattle.loops.specs.Counts.{countTo}
-use Rattle.loops.proofs.Shown.{product-agree}
+use Rattle.paper.proofs.Chain.{chain-same}
 
 module _ (e : Case) where
   -- a loop that does not have the node has no part in its count
   pub count-out : (v j : ℕ) → ¬ In (e .loop j) v → countTo e v (suc j) ≡ countTo e v j
-  unfolding countTo productTo
-  count-out v j n = rw (says-false (inside-says (e .loop j) v) .1 n, mul-one) refl
+  unfolding countTo chain
+  count-out v j n = rw (says-false (inside-says (e .loop j) v) .1 n) refl
 
   -- rule 7 gives both
   module _
@@ -34,8 +32,8 @@ module _ (e : Case) where
 
     -- all nodes of loop j have one count over the loops up to it
     pub count-same : countTo e v (suc j) ≡ countTo e (e .loop j .first) (suc j)
-    unfolding countTo productTo
+    unfolding countTo chain
     count-same =
         let a = says-is (inside-says (e .loop j) v) h in
         let b = says-is (inside-says (e .loop j) (e .loop j .first)) (omega (arith, h), omega (arith, h)) in
-        rw (product-agree _ _ j (λ i l. ap (λ (s : Bool). cond s (e .loop i .bound) 1) (same i l)), a, b) refl
+        rw (chain-same _ _ _ j same, a, b) refl

@@ -17,7 +17,7 @@ use Rattle.paper.specs.Cases.{Fact, Case, scopeOf}
 use Rattle.paper.specs.Facts.{wrongOrder, badOrder}
 use Rattle.paper.specs.Ceilings.{mostNodes, mostEdges, mostLoops, mostFacts}
 use Rattle.paper.specs.Records as Records
-use Rattle.paper.specs.Files.{u8At, u32At, endAt, letters, version, badLetter, badLetters, badNumbers, edgesAt, loopsAt, factsAt, badOffsets}
+use Rattle.paper.specs.Files.{u8At, u32At, endAt, letters, badLetter, badLetters, badNumbers, edgesAt, loopsAt, factsAt, badOffsets}
 use Rattle.paper.specs.Known.{Laid}
 use Rattle.paper.proofs.Says.{Says, holds, fails, says-bool, says-lt, says-le, says-eq, says-not, says-and, says-or, says-some, says-as, says-false, says-true}
 use Rattle.paper.proofs.States.{says-range}
@@ -40,14 +40,19 @@ pub access-says : (blocks : List ℕ) (i : ℕ) → Says (getD blocks i 0 ≡ no
 unfolding badAccess
 access-says blocks i = says-eq _ _
 
+-- "versions other than 1 and 2"
+pub version-says : (version : ℕ) → Says (¬ ((version ≡ Records.withoutW) ⊎ (version ≡ Records.withW))) (Records.badVersion version)
+unfolding Records.badVersion
+version-says version = says-not (says-or (says-eq _ _) (says-eq _ _))
+
 -- 2
 pub letters-says : (f : List ℕ) →
     Says
     (((k : ℕ) × (k < length letters) × ¬ (u8At f (endAt f + Records.lettersField + k) ≡ getD letters k 0))
-    ⊎ ¬ (u8At f (endAt f + Records.versionField) ≡ version))
+    ⊎ ¬ ((u8At f (endAt f + Records.versionField) ≡ Records.withoutW) ⊎ (u8At f (endAt f + Records.versionField) ≡ Records.withW)))
     (badLetters f)
 unfolding badLetters badLetter
-letters-says f = says-or (says-some (λ k. says-not (says-eq (u8At f (endAt f + Records.lettersField + k)) (getD letters k 0))) (length letters)) (says-not (says-eq _ _))
+letters-says f = says-or (says-some (λ k. says-not (says-eq (u8At f (endAt f + Records.lettersField + k)) (getD letters k 0))) (length letters)) (version-says _)
 
 -- 5
 pub offsets-says : (f : List ℕ) (trailer : Trailer) →

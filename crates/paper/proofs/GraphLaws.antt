@@ -57,8 +57,9 @@ module _ (e : Case) where
       ⊎ ((e .nodes ≤ e .loop i .last)
       ⊎ ((e .loop i .bound < 1)
       ⊎ ((1000000 < e .loop i .bound)
+      ⊎ ((e .loop i .visits < 1)
       ⊎ (((0 < i) × (e .loop i .first ≤ e .loop (i - 1) .first))
-      ⊎ ((j : ℕ) × (j < i) × ((e .loop i .first ≤ e .loop j .last) × (e .loop j .last < e .loop i .last)))))))
+      ⊎ ((j : ℕ) × (j < i) × ((e .loop i .first ≤ e .loop j .last) × (e .loop j .last < e .loop i .last))))))))
 
   pub loop-says : (i : ℕ) → Says (BadLoop i) (badLoop e i)
   unfolding badLoop wrongLoop
@@ -66,7 +67,8 @@ module _ (e : Case) where
       says-or (says-lt _ _)
       (says-or (says-le _ _)
       (says-or (says-lt _ _)
-      (says-or (says-lt _ _) (says-or (says-and (says-lt _ _) (says-le _ _)) (says-some (λ j. crosses-says (e .loop j) (e .loop i)) i)))))
+      (says-or (says-lt _ _)
+      (says-or (says-lt _ _) (says-or (says-and (says-lt _ _) (says-le _ _)) (says-some (λ j. crosses-says (e .loop j) (e .loop i)) i))))))
 
   pub entry-says : (i : ℕ) →
       Says
@@ -95,7 +97,7 @@ module _ (e : Case) (kept : None (badLoop e) (e .loops)) where
   next-rises : (j : ℕ) → suc j < e .loops → e .loop j .first < e .loop (suc j) .first
   next-rises j h =
       let z : suc j - 1 ≡ j = omega arith in
-      let n : ¬ (e .loop (suc j) .first ≤ e .loop j .first) = λ le. loop-kept (suc j) h (inr (inr (inr (inr (inl (omega arith, rw z le)))))) in
+      let n : ¬ (e .loop (suc j) .first ≤ e .loop j .first) = λ le. loop-kept (suc j) h (inr (inr (inr (inr (inr (inl (omega arith, rw z le))))))) in
       omega arith
 
   rises : (i j : ℕ) → i < j → j < e .loops → e .loop i .first < e .loop j .first
@@ -107,7 +109,7 @@ module _ (e : Case) (kept : None (badLoop e) (e .loops)) where
       ]
 
   nested : (i j : ℕ) → i < j → j < e .loops → e .loop j .first ≤ e .loop i .last → e .loop j .last ≤ e .loop i .last
-  nested i j l h p = over (λ q. loop-kept j h (inr (inr (inr (inr (inr (i, l, (p, q))))))))
+  nested i j l h p = over (λ q. loop-kept j h (inr (inr (inr (inr (inr (inr (i, l, (p, q)))))))))
     where
       over : ¬ (e .loop i .last < e .loop j .last) → e .loop j .last ≤ e .loop i .last
       over n = omega arith
@@ -118,6 +120,12 @@ module _ (e : Case) (kept : None (badLoop e) (e .loops)) where
       all : ¬ (e .loop j .last < e .loop j .first) → ¬ (e .nodes ≤ e .loop j .last) → ¬ (e .loop j .bound < 1) →
           (e .loop j .first ≤ e .loop j .last) × (e .loop j .last < e .nodes) × (1 ≤ e .loop j .bound)
       all a b c = (omega arith, omega arith, omega arith)
+
+  limited : (j : ℕ) → j < e .loops → 1 ≤ e .loop j .visits
+  limited j h = over (λ p. loop-kept j h (inr (inr (inr (inr (inl p))))))
+    where
+      over : ¬ (e .loop j .visits < 1) → 1 ≤ e .loop j .visits
+      over n = omega arith
 
 -- No edge and no loop breaks one of the rules 6 and 7.
 module _ (e : Case) (edges : None (badEdge e) (e .edges)) (loops : None (badLoop e) (e .loops)) where
@@ -137,7 +145,7 @@ module _ (e : Case) (edges : None (badEdge e) (e .edges)) (loops : None (badLoop
       ]
 
   pub shaped : Shaped e
-  shaped = record { ends = ends-at; climbs = climbs-at; fits = fits e loops; rises = rises e loops; nested = nested e loops }
+  shaped = record { ends = ends-at; climbs = climbs-at; fits = fits e loops; limited = limited e loops; rises = rises e loops; nested = nested e loops }
 
 -- What rule 8 gives.
 pub forward-at : (e : Case) → None (badEntry e) (e .edges) → (u v : ℕ) → Edge e u v → u < v → (j : ℕ) → j < e .loops → In (e .loop j) v → ¬ In (e .loop j) u → v ≡ e .loop j .first

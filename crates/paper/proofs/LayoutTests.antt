@@ -10,7 +10,9 @@ use Rattle.paper.specs.declared.Trailer.{Trailer}
 use Rattle.paper.specs.declared.Verdict.{Verdict}
 use Rattle.paper.specs.declared.Verdict.the-variants.{Accepted}
 use Rattle.paper.specs.Machines.{inRange}
-use Rattle.paper.specs.Files.{u32At, endAt, trailerOf, badLetters, badCache, badNumbers, badOffsets, edgesAt, loopsAt, factsAt}
+use Rattle.paper.specs.Lists.{some}
+use Rattle.paper.specs.Records.{badVersion}
+use Rattle.paper.specs.Files.{u32At, endAt, trailerOf, letters, badLetter, badLetters, badCache, badNumbers, badOffsets, edgesAt, loopsAt, factsAt}
 use Rattle.paper.specs.Verdicts.{layoutRules}
 use Rattle.paper.proofs.Says.{neither}
 use Rattle.paper.proofs.RuleLaws.{past}
@@ -19,9 +21,14 @@ use Rattle.paper.proofs.RuleLaws.{past}
 pub record KeptLayout (f : List ℕ) (trailer : Trailer) : Type 0 where
   pub long : 32 ≤ length f
   pub letters : badLetters f ≡ false
+  pub version : badVersion (trailer .version) ≡ false
   pub cache : inRange (trailer .policy) (trailer .ways) (trailer .sets) ≡ true
   pub numbers : badNumbers trailer ≡ false
   pub offsets : badOffsets f trailer ≡ false
+
+version-kept : (f : List ℕ) → badLetters f ≡ false → badVersion (trailerOf f .version) ≡ false
+unfolding badLetters trailerOf
+version-kept f h = neither (some (badLetter f) (length letters)) _ h .1
 
 pub tests-kept : (f : List ℕ) (rest : Verdict) → layoutRules f rest ≡ Accepted → KeptLayout f (trailerOf f)
 unfolding layoutRules badCache
@@ -30,7 +37,7 @@ tests-kept f rest h =
     let b = past 2 0 (badLetters f) _ (a .1) in
     let c = past 3 0 _ _ (b .1) in
     let d = past 4 0 _ _ (c .1) in
-    record { long = ltb-false _ _ (a .0); letters = b .0; cache = not-false _ (c .0); numbers = d .0; offsets = past 5 0 _ _ (d .1) .0 }
+    record { long = ltb-false _ _ (a .0); letters = b .0; version = version-kept f (b .0); cache = not-false _ (c .0); numbers = d .0; offsets = past 5 0 _ _ (d .1) .0 }
 
 -- and a file that keeps them is judged by what follows
 pub layout-on : (f : List ℕ) (trailer : Trailer) → trailerOf f ≡ trailer → KeptLayout f trailer → (rest : Verdict) → layoutRules f rest ≡ rest

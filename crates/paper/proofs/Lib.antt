@@ -13,6 +13,9 @@ pub mod Reach
 pub mod Reached
 pub mod DeadPlaces
 pub mod GraphLaws
+pub mod Chain
+pub mod Nests
+pub mod LoopSizes
 pub mod RowLaws
 pub mod FactLaws
 pub mod VerdictLaws

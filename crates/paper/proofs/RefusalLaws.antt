@@ -31,6 +31,7 @@ use Rattle.paper.specs.Files.{endAt, trailerOf, badLetters, badCache, ba
 use Rattle.paper.specs.Rules.{refused, ruleBy, rule}
 use Rattle.paper.specs.Verdicts.{layoutRules, shapeRules, pathRules, countRules, graphRules, headRule, orderRule, fetchRule, rowRules, stepRules, manyRules, bodyRules, turnRules, turnsFrom, factRules, wholeFileRules, verdict}
 use Rattle.paper.specs.Finding.{sought, rowsLength, soughtRules, findVerdict}
+use Rattle.paper.specs.Records.{badVersion}
 use Rattle.paper.specs.Writing.{FileContent, trailerIn, caseIn, fileOf, contentRules, inTurn, badLists, badRowsNamed, writtenTurn, writtenFacts, listRules, writeVerdict, writeAnswer}
 
 -- the refusals that have a second place: 16, 17, 18, 24 and 25
@@ -154,11 +155,12 @@ module _ (c : FileContent) where
   unfolding writeVerdict listRules shapeRules writtenFacts
   content-numbered room =
       let e = caseIn c in
-      one 2 0 (badCache (trailerIn c))
+      one 1 0 (badVersion (c .version))
+      (one 2 0 (badCache (trailerIn c))
       (one 3 0 (badLists c || badNumbers (trailerIn c))
       (one 5 _ (some (badEdge e) (e .edges))
       (one 6 _ (some (badLoop e) (e .loops))
-      (each-numbered (trailerIn c .facts) 0 nonePrevious _ (one 19 0 (ltb room (length (fileOf c))) (plain 1 toldVerdict Accepted [] refl))))))
+      (each-numbered (trailerIn c .facts) 0 nonePrevious _ (one 19 0 (ltb room (length (fileOf c))) (plain 1 toldVerdict Accepted [] refl)))))))
 
   answer-numbered : (v : Verdict) → Numbered 1 toldVerdict v → Numbered 1 toldWrite (writeAnswer c v)
   answer-numbered Accepted h = plain 1 toldWrite (writeAnswer c Accepted) _ refl

@@ -4,19 +4,19 @@ use native.Mathlib.Omega.{arith}
 use native.Mathlib.Decide.{ℕ-discrete}
 use mathlib.Core.Path.{_≡_, refl, sym, _∙_, ap}
 use mathlib.Core.Logic.{_≢_}
-use mathlib.Core.Bool.{Bool, cond, _&&_}
+use mathlib.Core.Bool.{Bool, _&&_}
 use borrow.Author.Tests.{eq-eqb, ne-eqb}
 use lib.Dec.{eqb, ltb}
 use Rattle.paper.specs.declared.Verdict.{Verdict}
-use Rattle.paper.specs.Lists.{least, some, productTo}
+use Rattle.paper.specs.Lists.{least, some, chain}
 use Rattle.paper.specs.Machines.{none}
 use Rattle.paper.specs.Cases.{Case, inside, rangeOf}
 use Rattle.paper.specs.Known.{Shaped}
 use Rattle.paper.specs.Rules.{ruleAt}
 use Rattle.paper.specs.Verdicts.{shapeRules, pathRules, countRules, graphRules}
-use Rattle.paper.specs.Graphs.{wrongEdge, wrongLoop, crosses, beside, returns, badEdge, badLoop, badEntry, badReturn, joined, leads, reached, dead, count, badCount}
+use Rattle.paper.specs.Graphs.{wrongEdge, wrongLoop, crosses, beside, returns, badEdge, badLoop, badEntry, badReturn, joined, leads, reached, dead, headerVisits, innermost, count, badCount}
 use Rattle.paper.proofs.Least.{least-same, some-same}
-use Rattle.paper.proofs.Sums.{product-same}
+use Rattle.paper.proofs.Chain.{chain-agree}
 use Rattle.paper.proofs.Meaning.{In}
 
 -- a rule whose tests agree, below numbers that are the same
@@ -88,10 +88,10 @@ module _ (e d : Case) (s : SameGraph e d) where
 
   -- 10
   pub count-same : (v : ℕ) → count e v ≡ count d v
-  unfolding count
+  unfolding count innermost headerVisits
   count-same v =
-      product-same _ _ (e .loops) (λ j h. rw (s .loop j h) refl)
-      ∙ ap (λ (n : ℕ). productTo (λ j. cond (inside (d .loop j) v) (d .loop j .bound) 1) n) (s .loops)
+      chain-agree _ _ _ _ (e .loops) (λ j h k. rw (s .loop j h) refl) (λ j h. rw (s .loop j h) refl)
+      ∙ ap (chain (headerVisits d) (λ j. inside (d .loop j) v)) (s .loops)
 
   bad-count-same : (v : ℕ) → badCount e v ≡ badCount d v
   unfolding badCount

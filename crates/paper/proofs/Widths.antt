@@ -3,12 +3,13 @@ use Prim.Native.Nat.{ℕ, zero, suc, _+_, _<_}
 use native.Mathlib.Omega.{arith}
 use mathlib.Core.Path.{refl}
 use mathlib.Core.Logic.{⊎-elim}
-use mathlib.Core.List.{List, [], _∷_, _++_, List·Memᴰ·head, List·Memᴰ·tail, List·Memᴰ·cases-cons, List·Memᴰ·not-nil, List·Memᴰ·append-cases}
+use mathlib.Core.List.{List, [], _∷_, _++_, List·Memᴰ, List·Memᴰ·head, List·Memᴰ·tail, List·Memᴰ·cases-cons, List·Memᴰ·not-nil, List·Memᴰ·append-cases}
 use lib.ListN.{getD}
-use Rattle.paper.specs.Lists.{each, spaced, part}
 use Rattle.paper.specs.OneFact.{words}
 use Rattle.paper.specs.Demands.{Bytes}
-use Rattle.paper.specs.Writing.{Below}
+
+abbrev pub Below : ℕ → List ℕ → Type 0
+Below n l = (x : ℕ) → List·Memᴰ x l → x < n
 
 module _ (n : ℕ) where
   pub below-nil : Below n []
@@ -20,21 +21,11 @@ module _ (n : ℕ) where
   pub below-append : (s t : List ℕ) → Below n s → Below n t → Below n (s ++ t)
   below-append s t a b x m = ⊎-elim (a x) (b x) (List·Memᴰ·append-cases s m)
 
-  pub below-each : (g : ℕ → List ℕ) (k : ℕ) → ((i : ℕ) → i < k → Below n (g i)) → Below n (each g k)
-  unfolding each
-  below-each g zero h = below-nil
-  below-each g (suc k) h = below-append (each g k) (g k) (below-each g k (λ i l. h i (omega arith))) (h k (omega arith))
-
   -- past its end a list reads as 0
   pub below-at : (l : List ℕ) → 0 < n → Below n l → (i : ℕ) → getD l i 0 < n
   below-at [] z b i = z
   below-at (y ∷ l) z b zero = b y (List·Memᴰ·head refl)
   below-at (y ∷ l) z b (suc i) = below-at l z (λ x m. b x (List·Memᴰ·tail m)) i
-
-  pub below-part : (l : List ℕ) → 0 < n → Below n l → (p k : ℕ) → Below n (part l p k)
-  unfolding spaced
-  below-part l z b p zero = below-nil
-  below-part l z b p (suc k) = below-cons _ _ (below-at l z b p) (below-part l z b (p + 1) k)
 
 -- 16-bit numbers are written as bytes
 pub words-bytes : (xs : List ℕ) → Below 65536 xs → Bytes (words xs)

@@ -1,5 +1,5 @@
 -- "The bounds": of a fact by its policy's lines of the table, the sums A and M(l), and the list of numbers.
-use Prim.Native.Nat.{ℕ, suc, _+_, _-_, _*_, _/_, _%_}
+use Prim.Native.Nat.{ℕ, suc, _+_, _-_, _*_, _/_, _%_, min}
 use mathlib.Core.Bool.{Bool, true, cond, not, _&&_}
 use mathlib.Core.List.{List}
 use lib.Dec.{eqb, ltb, leb}
@@ -45,11 +45,10 @@ module _ (e : Case) where
   unfoldable pub counts : (ℕ → Bool) → ℕ
   counts test = sumTo (λ v. cond (test v) (count e v) 0) (e .nodes)
 
-  -- "E is its entries": what a fact is charged with, in its bound and in M(l).
+  -- "E is its entries, N the sum of counts of its nodes that fetch b": "every bound uses the lesser of E and N in place of E", a fact's and M(l).
   unfoldable pub entered : Fact → ℕ
-  entered t = entries e t
+  entered t = min (entries e t) (counts (covers t))
 
-  -- "N the sum of counts of its nodes that fetch b"
   unfoldable pub factBound : Fact → ℕ
   factBound t = boundOf (e .policy) (e .ways) (t .limit) (entered t) (counts (covers t))
 
@@ -76,7 +75,7 @@ module _ (e : Case) where
   abbrev pub upTo : ℕ → Fact → Bool
   upTo l t = leb (t .limit) l
 
-  -- "M(l) of a set is the sum of E over its facts with limit at most l, plus the counts of fetching nodes that no such fact covers."
+  -- "M(l) of a set is the sum of E over its facts with limit at most l, plus the counts of fetching nodes that no such fact covers", the lesser of E and N in place of E.
   unfoldable pub M : ℕ → ℕ → ℕ
   M l q = sumOf (upTo l) entered q
 

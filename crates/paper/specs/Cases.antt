@@ -34,6 +34,10 @@ pub record Case : Type 0 where
   pub loop : ℕ → Loop
   pub fact : ℕ → Fact
 
+-- "4,294,967,295 says no such limit": the W of a loop without W.
+abbrev pub unlimited : ℕ
+unlimited = 4294967295
+
 -- "A loop is a range of nodes, first to last": the node is in it.
 unfoldable pub inside : Loop → ℕ → Bool
 inside l v = leb (l .first) v && leb v (l .last)
@@ -44,7 +48,7 @@ size l = suc (l .last) - l .first
 
 -- Range w of a graph: loop w, or the whole graph where w is 65,535.
 unfoldable pub rangeOf : ℕ → (ℕ → Loop) → ℕ → Loop
-rangeOf nodes loop w = cond (eqb w none) (record { first = 0; last = nodes - 1; bound = 1 }) (loop w)
+rangeOf nodes loop w = cond (eqb w none) (record { first = 0; last = nodes - 1; bound = 1; visits = unlimited }) (loop w)
 
 module _ (e : Case) where
   abbrev pub scopeOf : Fact → Loop

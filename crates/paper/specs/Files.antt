@@ -1,6 +1,6 @@
 -- "The case file": little-endian numbers, the sections in order without gaps, the trailer; and the case that a file holds.
 use Prim.Native.Nat.{ℕ, zero, suc, _+_, _-_, _*_}
-use mathlib.Core.Bool.{Bool, not, _&&_, _||_}
+use mathlib.Core.Bool.{Bool, cond, not, _&&_, _||_}
 use mathlib.Core.List.{List, [], _∷_}
 use lib.Dec.{eqb, ltb, leb}
 use lib.ListN.{length, getD}
@@ -8,7 +8,7 @@ use Rattle.paper.specs.declared.Loop.{Loop}
 use Rattle.paper.specs.declared.Trailer.{Trailer}
 use Rattle.paper.specs.Lists.{some}
 use Rattle.paper.specs.Machines.{inRange}
-use Rattle.paper.specs.Cases.{Row, Fact, Case, size, rangeOf}
+use Rattle.paper.specs.Cases.{Row, Fact, Case, unlimited, size, rangeOf}
 use Rattle.paper.specs.Ceilings.{mostNodes, mostEdges, mostLoops, mostFacts}
 use Rattle.paper.specs.Records as Records
 
@@ -26,7 +26,7 @@ u32At f p = u16At f p + 65536 * u16At f (p + 2)
 abbrev pub endAt : List ℕ → ℕ
 endAt f = length f - Records.trailerSize
 
--- "16-bit numbers of nodes, edges, loops, facts; policy, ways, sets, version 1, one byte each"
+-- "16-bit numbers of nodes, edges, loops, facts; policy, ways, sets, version …, one byte each"
 unfoldable pub trailerOf : List ℕ → Trailer
 trailerOf f =
     record {
@@ -37,22 +37,19 @@ trailerOf f =
       policy = u8At f (endAt f + Records.policyField);
       ways = u8At f (endAt f + Records.waysField);
       sets = u8At f (endAt f + Records.setsField);
+      version = u8At f (endAt f + Records.versionField);
     }
 
 -- "the four letters QMBT"
 abbrev pub letters : List ℕ
 letters = 81 ∷ 77 ∷ 66 ∷ 84 ∷ []
 
--- "version 1"
-abbrev pub version : ℕ
-version = 1
-
 unfoldable pub badLetter : List ℕ → ℕ → Bool
 badLetter f i = not (eqb (u8At f (endAt f + Records.lettersField + i)) (getD letters i 0))
 
 -- 2: "letters or version wrong"
 unfoldable pub badLetters : List ℕ → Bool
-badLetters f = some (badLetter f) (length letters) || not (eqb (u8At f (endAt f + Records.versionField)) version)
+badLetters f = some (badLetter f) (length letters) || Records.badVersion (u8At f (endAt f + Records.versionField))
 
 -- 3: "policy, ways or sets out of range"
 unfoldable pub badCache : Trailer → Bool
@@ -76,7 +73,7 @@ abbrev pub loopsAt : Trailer → ℕ
 loopsAt trailer = edgePlace trailer (trailer .edges)
 
 abbrev pub loopPlace : Trailer → ℕ → ℕ
-loopPlace trailer j = loopsAt trailer + Records.loopSize * j
+loopPlace trailer j = loopsAt trailer + Records.loopSize (trailer .version) * j
 
 abbrev pub factsAt : Trailer → ℕ
 factsAt trailer = loopPlace trailer (trailer .loops)
@@ -115,6 +112,10 @@ factAt f p =
 unfoldable pub nodeAt : List ℕ → ℕ → ℕ
 nodeAt f v = u16At f (nodePlace v)
 
+-- "Version 1 is read as without W"; else it is what is read as W.
+unfoldable pub visitsBy : ℕ → ℕ → ℕ
+visitsBy version W = cond (eqb version Records.withoutW) unlimited W
+
 module _ (f : List ℕ) (trailer : Trailer) where
   unfoldable pub fromAt : ℕ → ℕ
   fromAt i = u16At f (edgePlace trailer i)
@@ -128,6 +129,7 @@ module _ (f : List ℕ) (trailer : Trailer) where
         first = u16At f (loopPlace trailer j);
         last = u16At f (loopPlace trailer j + Records.lastField);
         bound = u32At f (loopPlace trailer j + Records.boundField);
+        visits = visitsBy (trailer .version) (u32At f (loopPlace trailer j + Records.visitsField));
       }
 
   -- where the fact that stands at p ends

@@ -1,12 +1,12 @@
 -- "The graph and its walks": edges, loops, counts and entries, as the rules 6 to 10 and 26 test them.
-use Prim.Native.Nat.{ℕ, zero, suc, _-_}
+use Prim.Native.Nat.{ℕ, zero, suc, _-_, _*_, min}
 use mathlib.Core.Bool.{Bool, cond, not, _&&_, _||_}
 use lib.Dec.{eqb, ltb, leb}
 use Rattle.paper.specs.declared.Loop.{Loop}
-use Rattle.paper.specs.Lists.{some, productTo}
+use Rattle.paper.specs.Lists.{some, chain}
 use Rattle.paper.specs.Machines.{none}
 use Rattle.paper.specs.Ceilings.{mostBound, mostCount}
-use Rattle.paper.specs.Cases.{Case, Fact, inside}
+use Rattle.paper.specs.Cases.{Case, Fact, unlimited, inside}
 
 -- The edge u to v stands after the edge u′ to v′: "strictly rising by from, then to".
 unfoldable pub risesFrom : ℕ → ℕ → ℕ → ℕ → Bool
@@ -28,18 +28,23 @@ returns l u v = inside l u && eqb v (l .first)
 unfoldable pub around : Loop → Loop → Bool
 around l o = ltb (o .first) (l .first) && leb (l .last) (o .last)
 
+-- "the lesser of W and" n, which is n where there is no W
+unfoldable pub atMost : ℕ → ℕ → ℕ
+atMost W n = cond (eqb W unlimited) n (min W n)
+
 -- 6: "edge end not below n, or edge not after the one before it", of edge i, from u to v, after one from u′ to v′. (Before edge 0 there is none.)
 unfoldable pub wrongEdge : ℕ → ℕ → ℕ → ℕ → ℕ → ℕ → Bool
 wrongEdge nodes i u′ v′ u v = leb nodes u || (leb nodes v || (ltb 0 i && not (risesFrom u′ v′ u v)))
 
--- 7: "loop's first above last, last not below n, B out of range, first not above that of the loop before it, or it crosses an earlier loop", of l, which is
--- loop i, after one with the header h. (Before loop 0 there is none.)
+-- 7: "loop's first above last, last not below n, B out of range, first not above that of the loop before it, or it crosses an earlier loop", "7 also for W = 0", of l,
+-- which is loop i, after one with the header h. (Before loop 0 there is none.)
 unfoldable pub wrongLoop : ℕ → (ℕ → Loop) → ℕ → ℕ → Loop → Bool
 wrongLoop nodes loop i h l =
     ltb (l .last) (l .first)
     || (leb nodes (l .last)
     || (ltb (l .bound) 1
-    || (ltb mostBound (l .bound) || ((ltb 0 i && leb (l .first) h) || some (λ j. crosses (loop j) l) i))))
+    || (ltb mostBound (l .bound)
+    || (ltb (l .visits) 1 || ((ltb 0 i && leb (l .first) h) || some (λ j. crosses (loop j) l) i)))))
 
 module _ (e : Case) where
   -- 6
@@ -75,17 +80,29 @@ module _ (e : Case) where
   unfoldable pub dead : ℕ → Bool
   dead v = not (reached v)
 
-  -- "Count of a node: the product of B over all loops that contain it."
+  -- "A loop's header visits are the lesser of W and B times the header visits of the next loop out": those of loop j, where the next loop out has n.
+  unfoldable pub headerVisits : ℕ → ℕ → ℕ
+  headerVisits j n = atMost (e .loop j .visits) (e .loop j .bound * n)
+
+  -- The header visits of the innermost loop that passes the test, "1 outside all loops". The loops that pass lie one in the other, and an inner loop comes later in the file.
+  unfoldable pub innermost : (ℕ → Bool) → ℕ
+  innermost test = chain headerVisits test (e .loops)
+
+  -- "a node's count is the header visits of its innermost loop"
   unfoldable pub count : ℕ → ℕ
-  count v = productTo (λ j. cond (inside (e .loop j) v) (e .loop j .bound) 1) (e .loops)
+  count v = innermost (λ j. inside (e .loop j) v)
 
   -- 10: "count too large"
   unfoldable pub badCount : ℕ → Bool
   badCount v = ltb mostCount (count v)
 
-  -- "Entries of a loop: the product over the loops strictly around it."
+  -- the header visits of the next loop out: the innermost of those strictly around it
+  unfoldable pub outer : Loop → ℕ
+  outer l = innermost (λ j. around l (e .loop j))
+
+  -- "its entries the lesser of W and that outer number"
   unfoldable pub entriesOf : Loop → ℕ
-  entriesOf l = productTo (λ j. cond (around l (e .loop j)) (e .loop j .bound) 1) (e .loops)
+  entriesOf l = atMost (l .visits) (outer l)
 
   -- "the whole graph with one entry"
   unfoldable pub entries : Fact → ℕ

@@ -25,10 +25,11 @@ pub record Laid (f : List ℕ) (trailer : Trailer) : Type 0 where
   pub sets-high : trailer .sets ≤ 64
   pub cache : inRange (trailer .policy) (trailer .ways) (trailer .sets) ≡ true
 
--- Edges end at nodes and come by rising sources; loops are ranges of nodes, come by rising headers, and are nested or apart.
+-- Edges end at nodes and come by rising sources; loops are ranges of nodes with limits above 0, come by rising headers, and are nested or apart.
 pub record Shaped (e : Case) : Type 0 where
   pub ends : (i : ℕ) → i < e .edges → (e .from i < e .nodes) × (e .to i < e .nodes)
   pub climbs : (i : ℕ) → suc i < e .edges → e .from i ≤ e .from (suc i)
   pub fits : (j : ℕ) → j < e .loops → (e .loop j .first ≤ e .loop j .last) × (e .loop j .last < e .nodes) × (1 ≤ e .loop j .bound)
+  pub limited : (j : ℕ) → j < e .loops → 1 ≤ e .loop j .visits
   pub rises : (i j : ℕ) → i < j → j < e .loops → e .loop i .first < e .loop j .first
   pub nested : (i j : ℕ) → i < j → j < e .loops → e .loop j .first ≤ e .loop i .last → e .loop j .last ≤ e .loop i .last

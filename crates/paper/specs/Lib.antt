@@ -11,6 +11,7 @@ pub mod Walks
 pub mod Runs
 pub mod Facts
 pub mod Bounds
+pub mod Products
 pub mod Ceilings
 pub mod Records
 pub mod Files

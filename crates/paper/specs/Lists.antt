@@ -28,6 +28,13 @@ unfoldable pub productTo : (ℕ → ℕ) → ℕ → ℕ
 productTo g zero = 1
 productTo g (suc n) = productTo g n * g n
 
+-- From 1, by the numbers below n that pass the test, in order: j makes k into `f j k`.
+unfoldable pub chain : (ℕ → ℕ → ℕ) → (ℕ → Bool) → ℕ → ℕ
+chain f test zero = 1
+chain f test (suc n) =
+    let k = chain f test n in
+    cond (test n) (f n k) k
+
 -- The least of a and of g's values below n.
 unfoldable pub lowestTo : (ℕ → ℕ) → ℕ → ℕ → ℕ
 lowestTo g a zero = a

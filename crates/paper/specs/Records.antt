@@ -1,6 +1,8 @@
 -- The records of a case file, each by the widths of its fields in bytes, in order. Reading finds a field by its offset; whoever writes a record writes its fields one after another.
 use Prim.Native.Nat.{ℕ, zero, suc, _+_}
+use mathlib.Core.Bool.{Bool, cond, not, _||_}
 use mathlib.Core.List.{List, [], _∷_}
+use lib.Dec.{eqb}
 
 -- "one byte each", "16-bit", "32-bit"
 abbrev pub bits8 : ℕ
@@ -40,18 +42,35 @@ edgeSize = sizeOf edgeFields
 abbrev pub toField : ℕ
 toField = offset edgeFields 1
 
--- "loops (16-bit first, 16-bit last, 32-bit B)"
-abbrev pub loopFields : List ℕ
-loopFields = bits16 ∷ bits16 ∷ bits32 ∷ []
+-- "Version 1 is read as without W", "Version 2 of the case file gives each loop a further 32-bit number W".
+abbrev pub withoutW : ℕ
+withoutW = 1
 
-abbrev pub loopSize : ℕ
-loopSize = sizeOf loopFields
+abbrev pub withW : ℕ
+withW = 2
+
+-- "versions other than 1 and 2"
+unfoldable pub badVersion : ℕ → Bool
+badVersion version = not (eqb version withoutW || eqb version withW)
+
+-- "loops (16-bit first, 16-bit last, 32-bit B)", and in version 2 W
+abbrev pub widestLoop : List ℕ
+widestLoop = bits16 ∷ bits16 ∷ bits32 ∷ bits32 ∷ []
+
+unfoldable pub loopFields : ℕ → List ℕ
+loopFields version = cond (eqb version withoutW) (bits16 ∷ bits16 ∷ bits32 ∷ []) widestLoop
+
+unfoldable pub loopSize : ℕ → ℕ
+loopSize version = sizeOf (loopFields version)
 
 abbrev pub lastField : ℕ
-lastField = offset loopFields 1
+lastField = offset widestLoop 1
 
 abbrev pub boundField : ℕ
-boundField = offset loopFields 2
+boundField = offset widestLoop 2
+
+abbrev pub visitsField : ℕ
+visitsField = offset widestLoop 3
 
 -- "facts (16-bit loop number or 65,535 for the whole graph, 16-bit block, 16-bit l, …": a fact's head
 abbrev pub headFields : List ℕ
@@ -76,7 +95,7 @@ rowSize = sizeOf rowFields
 abbrev pub slotsField : ℕ
 slotsField = offset rowFields 1
 
--- "The last 32 bytes point back: four 32-bit offsets (nodes, edges, loops, facts); 16-bit numbers of nodes, edges, loops, facts; policy …, ways, sets, version 1, one byte each;
+-- "The last 32 bytes point back: four 32-bit offsets (nodes, edges, loops, facts); 16-bit numbers of nodes, edges, loops, facts; policy …, ways, sets, version …, one byte each;
 -- then the four letters QMBT."
 abbrev pub trailerFields : List ℕ
 trailerFields =

@@ -1,13 +1,14 @@
 -- "A walk starts at node 0, follows edges, and may stop anywhere; the empty walk counts."
 use Prim.Native.Nat.{ℕ, zero, _+_, _≤_, _<_}
 use mathlib.Core.Path.{_≡_}
+use mathlib.Core.Logic.{_≢_}
 use mathlib.Core.Bool.{Bool, true, false, not}
 use mathlib.Core.Option.{Option, none, some}
 use mathlib.Core.List.{List, [], _∷_, _++_, List·Memᴰ, head?, getLast?}
 use lib.Dec.{eqb}
 use Rattle.paper.specs.declared.Loop.{Loop}
 use Rattle.paper.specs.Lists.{bit}
-use Rattle.paper.specs.Cases.{Case, inside}
+use Rattle.paper.specs.Cases.{Case, unlimited, inside}
 
 -- There is an edge u to v.
 abbrev pub Edge : Case → ℕ → ℕ → Type 0
@@ -49,6 +50,8 @@ pub record Stay (l : Loop) (w s : List ℕ) : Type 0 where
   pub entered : outside l (getLast? before) ≡ true
   pub left : outside l (head? after) ≡ true
 
--- "A walk keeps the limits if in each stay the header is visited at most B times, the arriving visit included."
-abbrev pub KeepsLimits : Case → List ℕ → Type 0
-KeepsLimits e w = (j : ℕ) → j < e .loops → (s : List ℕ) → Stay (e .loop j) w s → visits (e .loop j .first) s ≤ e .loop j .bound
+-- "A walk keeps the limits if in each stay the header is visited at most B times, the arriving visit included", and
+-- "over a whole walk its header is visited at most W times; 4,294,967,295 says no such limit".
+pub record KeepsLimits (e : Case) (w : List ℕ) : Type 0 where
+  pub in-stay : (j : ℕ) → j < e .loops → (s : List ℕ) → Stay (e .loop j) w s → visits (e .loop j .first) s ≤ e .loop j .bound
+  pub in-walk : (j : ℕ) → j < e .loops → e .loop j .visits ≢ unlimited → visits (e .loop j .first) w ≤ e .loop j .visits

@@ -2,9 +2,9 @@
 use Prim.Native.Nat.{ℕ, zero, suc, _+_, _*_, _/_, _%_, _≤_, _<_}
 use mathlib.Core.Path.{_≡_}
 use mathlib.Core.Bool.{Bool, not, _||_}
-use mathlib.Core.List.{List, [], _∷_, _++_, List·Memᴰ}
+use mathlib.Core.List.{List, [], _∷_, _++_}
 use lib.Dec.{eqb, ltb}
-use lib.ListN.{length, getD, drop}
+use lib.ListN.{length, getD, take, drop}
 use Rattle.paper.specs.declared.Loop.{Loop}
 use Rattle.paper.specs.declared.Trailer.{Trailer}
 use Rattle.paper.specs.declared.Previous.{Previous}
@@ -16,15 +16,17 @@ use Rattle.paper.specs.Lists.{sumTo, each, spaced, part}
 use Rattle.paper.specs.Cases.{Row, Fact, Case, size, scopeOf}
 use Rattle.paper.specs.Facts.{nonePrevious, previousOf}
 use Rattle.paper.specs.Records as Records
-use Rattle.paper.specs.Files.{u16At, endAt, trailerOf, letters, version, badCache, badNumbers, nodePlace, edgesAt, loopsAt, factsAt, headEnd, loopAt, factEnd, factPlace, caseOf, readCase}
+use Rattle.paper.specs.Files.{u16At, endAt, trailerOf, letters, badCache, badNumbers, nodePlace, edgesAt, loopsAt, factsAt, headEnd, visitsBy, loopAt, factEnd, factPlace, caseOf, readCase}
 use Rattle.paper.specs.Rules.{rule}
 use Rattle.paper.specs.Verdicts.{layoutRules, shapeRules, headRule, orderRule, rowRules}
 use Rattle.paper.specs.OneFact.{words, headBytes}
 use Rattle.paper.specs.Demands.{Bytes}
 
--- "Nodes, edges, loops and facts in": one number a node (its block), two an edge (from, to), three a loop (first, last, B), four a head (scope, block, l, how many rows
+-- "Nodes, edges, loops and facts in": one number a node (its block), two an edge (from, to), three a loop (first, last, B), in version 2 four (W), four a head (scope, block, l, how many rows
 -- the fact brings), eight a row ("its number and all seven slots as they stand, free ones too").
+-- "The writer is handed the version with the lists".
 pub record FileContent : Type 0 where
+  pub version : ℕ
   pub policy : ℕ
   pub ways : ℕ
   pub sets : ℕ
@@ -34,12 +36,12 @@ pub record FileContent : Type 0 where
   pub heads : List ℕ
   pub rows : List ℕ
 
--- So many numbers of the lists make one record: as many as the file's record has fields, and in a head one more.
+-- So many numbers of the lists make one record: as many as the file's record has fields, and in a head one more. "Version 1 content carries no W."
 abbrev pub perEdge : ℕ
 perEdge = length Records.edgeFields
 
-abbrev pub perLoop : ℕ
-perLoop = length Records.loopFields
+unfoldable pub perLoop : ℕ → ℕ
+perLoop version = length (Records.loopFields version)
 
 abbrev pub perHead : ℕ
 perHead = suc (length Records.headFields)
@@ -51,36 +53,28 @@ perRow = length Records.rowFields
 abbrev pub rowFrom : List ℕ → ℕ → Row
 rowFrom rows r = record { number = getD rows (perRow * r) 0; slot = λ k. getD rows (perRow * r + 1 + k) 0 }
 
--- What the types of the lent lists say: blocks, node numbers, loop numbers, limits and slots are 16 bits wide. (Of the cache and the loops rules 3 and 7 say more.)
-abbrev pub Below : ℕ → List ℕ → Type 0
-Below n l = (x : ℕ) → List·Memᴰ x l → x < n
-
-pub record InWidths (c : FileContent) : Type 0 where
-  pub nodes : Below 65536 (c .nodes)
-  pub edges : Below 65536 (c .edges)
-  pub heads : Below 65536 (c .heads)
-  pub rows : Below 65536 (c .rows)
-
 -- How many of each there are: what the trailer will say.
 unfoldable pub trailerIn : FileContent → Trailer
 trailerIn c =
     record {
       nodes = length (c .nodes);
       edges = length (c .edges) / perEdge;
-      loops = length (c .loops) / perLoop;
+      loops = length (c .loops) / perLoop (c .version);
       facts = length (c .heads) / perHead;
       policy = c .policy;
       ways = c .ways;
       sets = c .sets;
+      version = c .version;
     }
 
 module _ (c : FileContent) where
   unfoldable pub loopIn : ℕ → Loop
   loopIn j =
       record {
-        first = getD (c .loops) (perLoop * j) 0;
-        last = getD (c .loops) (perLoop * j + 1) 0;
-        bound = getD (c .loops) (perLoop * j + 2) 0;
+        first = getD (c .loops) (perLoop (c .version) * j) 0;
+        last = getD (c .loops) (perLoop (c .version) * j + 1) 0;
+        bound = getD (c .loops) (perLoop (c .version) * j + 2) 0;
+        visits = visitsBy (c .version) (getD (c .loops) (perLoop (c .version) * j + 3) 0);
       }
 
   -- how many rows fact i brings, and how many all facts before it
@@ -133,13 +127,17 @@ recordBytes [] values = []
 recordBytes (width ∷ fields) [] = []
 recordBytes (width ∷ fields) (x ∷ values) = numberBytes width x ++ recordBytes fields values
 
-unfoldable pub loopBytes : Loop → List ℕ
-loopBytes l = recordBytes Records.loopFields (l .first ∷ l .last ∷ l .bound ∷ [])
+-- a loop's numbers, of which version 1 has all but the last
+abbrev pub loopValues : Loop → List ℕ
+loopValues l = l .first ∷ l .last ∷ l .bound ∷ l .visits ∷ []
+
+unfoldable pub loopBytes : ℕ → Loop → List ℕ
+loopBytes version l = recordBytes (Records.loopFields version) (loopValues l)
 
 -- "The last 32 bytes point back": what they say, field by field
 abbrev pub trailerNumbers : Trailer → List ℕ
 trailerNumbers t =
-    nodePlace 0 ∷ edgesAt t ∷ loopsAt t ∷ factsAt t ∷ t .nodes ∷ t .edges ∷ t .loops ∷ t .facts ∷ t .policy ∷ t .ways ∷ t .sets ∷ version ∷ letters
+    nodePlace 0 ∷ edgesAt t ∷ loopsAt t ∷ factsAt t ∷ t .nodes ∷ t .edges ∷ t .loops ∷ t .facts ∷ t .policy ∷ t .ways ∷ t .sets ∷ t .version ∷ letters
 
 unfoldable pub trailerBytes : Trailer → List ℕ
 trailerBytes t = recordBytes Records.trailerFields (trailerNumbers t)
@@ -158,7 +156,7 @@ module _ (c : FileContent) where
   fileOf =
       words (c .nodes)
       ++ (words (c .edges)
-      ++ (each (λ j. loopBytes (loopIn c j)) (trailerIn c .loops) ++ (each factBytes (trailerIn c .facts) ++ trailerBytes (trailerIn c))))
+      ++ (each (λ j. loopBytes (c .version) (loopIn c j)) (trailerIn c .loops) ++ (each factBytes (trailerIn c .facts) ++ trailerBytes (trailerIn c))))
 
 -- n 16-bit numbers of the file from p on
 abbrev pub wordsAt : List ℕ → ℕ → ℕ → List ℕ
@@ -171,7 +169,7 @@ module _ (f : List ℕ) (t : Trailer) where
 
   -- the numbers of loop j, of fact i's head and of fact i's rows
   abbrev pub loopNumbers : ℕ → List ℕ
-  loopNumbers j = loopAt f t j .first ∷ loopAt f t j .last ∷ loopAt f t j .bound ∷ []
+  loopNumbers j = take (perLoop (t .version)) (loopValues (loopAt f t j))
 
   abbrev pub headNumbers : ℕ → List ℕ
   headNumbers i = caseOf f t .fact i .scope ∷ caseOf f t .fact i .block ∷ caseOf f t .fact i .limit ∷ rowsAt i ∷ []
@@ -182,6 +180,7 @@ module _ (f : List ℕ) (t : Trailer) where
   unfoldable pub contentBy : FileContent
   contentBy =
       record {
+        version = t .version;
         policy = t .policy;
         ways = t .ways;
         sets = t .sets;
@@ -227,7 +226,7 @@ layoutVerdict f = layoutRules f (shapeRules (readCase f) (laidFacts f (trailerOf
 unfoldable pub badLists : FileContent → Bool
 badLists c =
     not (eqb (length (c .edges) % perEdge) 0)
-    || (not (eqb (length (c .loops) % perLoop) 0)
+    || (not (eqb (length (c .loops) % perLoop (c .version)) 0)
     || (not (eqb (length (c .heads) % perHead) 0) || not (eqb (length (c .rows)) (perRow * rowsBefore c (trailerIn c .facts)))))
 
 -- "15 standing for a wrong number of rows"
@@ -240,9 +239,9 @@ writtenTurn c i previous rest = contentRules (caseIn c) i previous (badRowsNamed
 unfoldable pub writtenFacts : FileContent → Verdict → Verdict
 writtenFacts c rest = inTurn (caseIn c) (writtenTurn c) (trailerIn c .facts) 0 nonePrevious rest
 
--- 3 and 4
+-- 2, "in the writer too, as its first", 3 and 4
 unfoldable pub listRules : FileContent → Verdict → Verdict
-listRules c rest = rule 3 0 (badCache (trailerIn c)) (rule 4 0 (badLists c || badNumbers (trailerIn c)) rest)
+listRules c rest = rule 2 0 (Records.badVersion (c .version)) (rule 3 0 (badCache (trailerIn c)) (rule 4 0 (badLists c || badNumbers (trailerIn c)) rest))
 
 -- "Refusals, in this order: 3, 4, 6 and 7; then for each fact in turn 12, 13, 15 and 16, with their places …; then 20 if the file does not fit."
 unfoldable pub writeVerdict : FileContent → ℕ → Verdict
@@ -261,9 +260,7 @@ outAfter c out (Verdicts.Refused r) = out
 -- "What it writes passes them and reads back as the same lists"
 abbrev pub ReadsBack : FileContent → ℕ → Type 0
 ReadsBack c room =
-    InWidths c
-    → writeVerdict c room ≡ Verdicts.Accepted
-    → (layoutVerdict (fileOf c) ≡ Verdicts.Accepted) × (contentOf (fileOf c) ≡ c) × (length (fileOf c) ≤ room) × Bytes (fileOf c)
+    writeVerdict c room ≡ Verdicts.Accepted → (layoutVerdict (fileOf c) ≡ Verdicts.Accepted) × (contentOf (fileOf c) ≡ c) × (length (fileOf c) ≤ room)
 
 -- "and any file that passes them comes out again byte for byte when its content is written, so one content has one file"
 abbrev pub WritesBack : List ℕ → Type 0

@@ -6,6 +6,7 @@ mod cache;
 mod ceilings;
 mod methods;
 mod policies;
+mod versions;
 
 pub use cache::home;
 pub use cache::home_in;
@@ -29,6 +30,11 @@ pub use policies::LRU;
 pub use policies::NMRU;
 pub use policies::bits_below;
 pub use policies::has_floors;
+pub use versions::UNLIMITED;
+pub use versions::WITH_W;
+pub use versions::WITHOUT_W;
+pub use versions::at_most;
+pub use versions::is_bad_version;
 
 // "Addresses, block numbers and set numbers, which the sources distinguish, are each kept apart."
 pub struct Address(pub u32);
@@ -119,11 +125,12 @@ pub enum FindAnswer {
     Refused(Refusal),
 }
 
-// "The loops are handed on as a list of records: first node, last node, bound."
+// "The loops are handed on as a list of records: first node, last node, bound"; and "a further 32-bit number W", how often a whole walk visits the header at most.
 pub struct Loop {
     pub first: u16,
     pub last: u16,
     pub bound: u32,
+    pub visits: u32,
 }
 
 // What the last 32 bytes of a case file say of it, besides the offsets.
@@ -135,6 +142,7 @@ pub struct Trailer {
     pub policy: u8,
     pub ways: u8,
     pub sets: u8,
+    pub version: u8,
 }
 
 // What the order of facts asks of the previous fact: whether there is one, its block, and its scope's last node.

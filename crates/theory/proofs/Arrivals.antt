@@ -69,6 +69,18 @@ module _ (e : Case) (s : SoundGraph e) (w : List ℕ) (walk : Walk e w) where
               absurd (plain x n (omega arith)))
               (λ h. omega arith)
 
+  -- a stay's first visit is to its header
+  pub stays-visits : (j : ℕ) → j < e .loops → stays (e .loop j) w ≤ visits (e .loop j .first) w
+  stays-visits j m =
+      let t = e .loop j .first in
+      omega (
+        arith,
+        stays-arrivals j m,
+        tally-visits t none w,
+        tally-le e (arrives t) (λ p v. eqb v t) (λ p. 0)
+            (λ p v d. omega (arith, bit-le (arrives-says t p v) (λ q. bit-one (says-eq v t) (q .0)))) none w walk,
+      )
+
   -- `opens` holds of a visit of a node from a to t, or the node before was one from a to below t; where there is none, that is paid by c
   module _ (t a c : ℕ) (opens : Option ℕ → ℕ → Bool) where
     arrivals-le :

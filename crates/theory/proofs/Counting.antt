@@ -1,9 +1,10 @@
 -- The counts bound the walks that keep the limits.
--- "Count of a node: the product of B over all loops that contain it. Entries of a loop: the product over the loops strictly around it."
-use Prim.Native.Nat.{ℕ, zero, suc, _+_, _-_, _*_, _≤_, _<_}
+-- "A loop's header visits are the lesser of W and B times the header visits of the next loop out (1 outside all loops); its entries the lesser of W and that outer number;
+-- a node's count is the header visits of its innermost loop."
+use Prim.Native.Nat.{ℕ, zero, suc, _≤_, _<_, min}
 use native.Mathlib.Omega.{arith}
 use native.Mathlib.Decide.{ℕ-discrete}
-use native.Mathlib.Nat.{mul-comm, mul-le-mul-left, le-trans}
+use native.Mathlib.Nat.{mul-le-mul-left, le-trans}
 use mathlib.Core.Path.{_≡_, sym, ap, _∙_}
 use mathlib.Core.Logic.{_≢_, ⊎-elim}
 use mathlib.Core.Bool.{Bool, _&&_, cond}
@@ -11,18 +12,19 @@ use mathlib.Core.List.{List}
 use borrow.Author.Tests.{eqb-true, eqb-false}
 use lib.Dec.{leb, ltb, eqb}
 use Rattle.paper.specs.declared.Loop.{Loop}
-use Rattle.paper.specs.Cases.{Case, inside}
-use Rattle.paper.specs.Graphs.{around, count, entriesOf}
+use Rattle.paper.specs.Cases.{Case, unlimited, inside}
+use Rattle.paper.specs.Lists.{chain}
+use Rattle.paper.specs.Graphs.{around, atMost, headerVisits, innermost, count, outer, entriesOf}
 use Rattle.paper.specs.Walks.{Walk, visits, KeepsLimits}
 use Rattle.paper.proofs.Least.{None, Found, look}
-use Rattle.paper.proofs.Says.{Says, holds, fails, says-lt, says-le, says-and, says-false, says-same, says-is}
+use Rattle.paper.proofs.Says.{Says, holds, fails, says-lt, says-le, says-eq, says-and, says-false, says-same, says-is}
 use Rattle.paper.proofs.Meaning.{In, SoundGraph}
 use Rattle.paper.proofs.GraphLaws.{inside-says, around-says}
+use Rattle.paper.proofs.Chain.{chain-same, chain-last}
 use Rattle.theory.proofs.Steps.{Over, earlier, ends-in}
 use Rattle.theory.proofs.Tally.{stays, arrivals}
-use Rattle.theory.proofs.Arrivals.{stays-arrivals, visits-arrivals, arrivals-header, arrivals-once}
+use Rattle.theory.proofs.Arrivals.{stays-arrivals, stays-visits, visits-arrivals, arrivals-header, arrivals-once}
 use Rattle.theory.proofs.Limits.{visits-stays}
-use Rattle.theory.proofs.Chain.{chain, chain-taken, chain-same, chain-end, product-chain}
 
 abbrev over : ℕ → Loop → Bool
 over t l = ltb (l .first) t && leb t (l .last)
@@ -96,14 +98,10 @@ module _ (e : Case) (s : SoundGraph e) (w : List ℕ) (walk : Walk e w) (f : ℕ
               test : ℕ → Bool
               test i = inside (e .loop i) v
 
-              all : e .loops ≡ suc j + (e .loops - suc j)
-              all = omega arith
-
               last-taken : chain f test (e .loops) ≡ f j (chain f (λ i. over v (e .loop i)) j)
               last-taken =
-                  ap (chain f test) all
-                  ∙ chain-end f test (suc j) (e .loops - suc j) (λ i a b. says-false (inside-says (e .loop i) v) .1 (λ o. omega (arith, s .rises j i a (omega arith), o)))
-                  ∙ chain-taken f test j (says-is (inside-says (e .loop j) v) (omega (arith, s .fits j m)))
+                  chain-last f test (e .loops) j m (says-is (inside-says (e .loop j) v) (omega (arith, s .fits j m)))
+                  (λ i a b. says-false (inside-says (e .loop i) v) .1 (λ o. omega (arith, s .rises j i a b, o)))
                   ∙ ap (f j) (sym (same j (λ i q x. omega (arith, s .rises i j q m))))
 
   stays-le-chain : (j : ℕ) → j < e .loops → stays (e .loop j) w ≤ chain f (λ i. around (e .loop j) (e .loop i)) (e .loops)
@@ -115,25 +113,31 @@ module _ (e : Case) (s : SoundGraph e) (w : List ℕ) (walk : Walk e w) (f : ℕ
       (over-says (e .loop j .first) (e .loop i)) (around-says (e .loop j) (e .loop i)))
       (le-trans (stays-arrivals e s w walk j m) (arrivals-le-chain (e .loops) (e .loop j .first) (omega arith) (λ i n o. n)))
 
+-- what is below n, and below W where there is one
+at-most : (W x n : ℕ) → x ≤ n → (W ≢ unlimited → x ≤ W) → x ≤ atMost W n
+unfolding atMost
+at-most W x n h below = go (says-eq W unlimited)
+  where
+    go : {b : Bool} → Says (W ≡ unlimited) b → x ≤ cond b n (min W n)
+    go (holds p) = h
+    go (fails p) = omega (arith, below p)
+
 module _ (e : Case) (s : SoundGraph e) (w : List ℕ) (walk : Walk e w) (kept : KeepsLimits e w) where
   -- the limits cap a header's visits by the stays
-  by-stays : (j : ℕ) → j < e .loops → (n : ℕ) → stays (e .loop j) w ≤ n → visits (e .loop j .first) w ≤ n * e .loop j .bound
+  by-stays : (j : ℕ) → j < e .loops → (n : ℕ) → stays (e .loop j) w ≤ n → visits (e .loop j .first) w ≤ headerVisits e j n
+  unfolding headerVisits
   by-stays j m n h =
-      omega (
-        arith,
-        visits-stays (e .loop j) (s .fits j m .0) w (kept j m),
-        mul-le-mul-left (e .loop j .bound) h,
-        mul-comm n (e .loop j .bound),
-      )
+      at-most (e .loop j .visits) _ _
+      (le-trans (visits-stays (e .loop j) (s .fits j m .0) w (kept .in-stay j m)) (mul-le-mul-left (e .loop j .bound) h))
+      (kept .in-walk j m)
 
   pub visits-le-count : (v : ℕ) → visits v w ≤ count e v
-  unfolding count
-  visits-le-count v =
-      rw (product-chain (λ j. e .loop j .bound) (λ j. inside (e .loop j) v) (e .loops))
-      (visits-le-chain e s w walk (λ j n. n * e .loop j .bound) by-stays v)
+  unfolding count innermost
+  visits-le-count v = visits-le-chain e s w walk (headerVisits e) by-stays v
 
   pub stays-le-entries : (j : ℕ) → j < e .loops → stays (e .loop j) w ≤ entriesOf e (e .loop j)
-  unfolding entriesOf
+  unfolding entriesOf outer innermost
   stays-le-entries j m =
-      rw (product-chain (λ i. e .loop i .bound) (λ i. around (e .loop j) (e .loop i)) (e .loops))
-      (stays-le-chain e s w walk (λ i n. n * e .loop i .bound) by-stays j m)
+      at-most (e .loop j .visits) _ _
+      (stays-le-chain e s w walk (headerVisits e) by-stays j m)
+      (λ limited. le-trans (stays-visits e s w walk j m) (kept .in-walk j m limited))

@@ -1,7 +1,8 @@
--- A fact in the run of a walk, in any machine that has a law: c times its misses are at most a times its entries and d times its fetches.
-use Prim.Native.Nat.{ℕ, zero, suc, _+_, _-_, _*_, _%_, _≤_}
+-- A fact in the run of a walk, in any machine that has a law: c times its misses are at most a times the lesser of its entries and its fetches, and d times its fetches.
+use Prim.Native.Nat.{ℕ, zero, suc, _+_, _-_, _*_, _%_, _≤_, min}
 use native.Mathlib.Omega.{arith}
-use native.Mathlib.Nat.{mod-lt, mul-le-mul-left}
+use native.Mathlib.Decide.{decLe}
+use native.Mathlib.Nat.{mod-lt, le-trans, mul-le-mul-left, mul-le-mul-right}
 use mathlib.Core.Path.{_≡_, refl, sym, _∙_, ap}
 use mathlib.Core.Logic.{_≢_}
 use mathlib.Core.Bool.{Bool, false, cond}
@@ -10,7 +11,7 @@ use mathlib.Core.List.{List, [], _∷_}
 use Rattle.paper.specs.declared.Loop.{Loop}
 use Rattle.paper.specs.Lists.{bit}
 use Rattle.paper.specs.Machines as Machines
-use Rattle.paper.specs.Cases.{Fact, Case, rangeOf, scopeOf}
+use Rattle.paper.specs.Cases.{Fact, Case, unlimited, rangeOf, scopeOf}
 use Rattle.paper.specs.Graphs.{entriesOf, entries}
 use Rattle.paper.specs.Walks.{Step, Walk, KeepsLimits}
 use Rattle.paper.specs.Bounds.{covers, counts, entered}
@@ -25,7 +26,7 @@ use Rattle.theory.proofs.Costs.{paid}
 use Rattle.theory.proofs.Passing.{passing-le-counts}
 use Rattle.theory.proofs.Law.{Machine, Fair, Law}
 use Rattle.paper.proofs.TestLaws.{covers-says}
-use Rattle.theory.proofs.Moves.{Held, Fine, move, missAt, misses, move-fine, miss-at}
+use Rattle.theory.proofs.Moves.{Held, Fine, move, missAt, misses, misses-le, move-fine, miss-at}
 use Rattle.theory.proofs.Since.{since, Taken, missed, fact-pays}
 
 module _ (e : Case) (M : Machine) (t : Fact) where
@@ -50,9 +51,17 @@ module _ (e : Case) (M : Machine) (t : Fact) where
       one (holds h) = sym (miss-at e M v c (rw (h .1) real) ∙ ap (λ (b : ℕ). M .miss b (c (b % e .sets))) (h .1))
       one (fails n) = refl
 
+-- "N may now be below E": then each of F accesses, N at most, is paid as a first one
+lesser : (c a d F E N : ℕ) → c ≤ a + d → F ≤ N → c * F ≤ a * E + d * N → c * F ≤ a * min E N + d * N
+lesser c a d F E N enough few h =
+    elim (decLe E N) [
+      | yes l ↦ let z : min E N ≡ E = omega arith in rw z h
+      | no l ↦ let z : min E N ≡ N = omega arith in rw z (omega (arith, mul-le-mul-left c few, mul-le-mul-right N enough))
+    ]
+
 module _ (e : Case) (s : Sound e) (w : List ℕ) (walk : Walk e w) (kept : KeepsLimits e w) where
   abbrev whole : Loop
-  whole = record { first = 0; last = e .nodes - 1; bound = 1 }
+  whole = record { first = 0; last = e .nodes - 1; bound = 1; visits = unlimited }
 
   -- "the whole graph with one entry"
   whole-once : stays whole w ≤ 1
@@ -95,4 +104,6 @@ module _ (e : Case) (s : Sound e) (w : List ℕ) (walk : Walk e w) (kept : Keeps
       → r * paid (covers e t) (misses e M w c) ≤ a * entered e t + d * counts e (covers e t)
   unfolding entered
   law-bound M fair c fine t h r a d L =
-      rw (← same-missed e M t (h .head .block) w c) (taken-bound M t h r a d L (states e M t w c) (taken e M t (some-set e s) fair false w c fine))
+      lesser r a d _ (entries e t) _ (L .enough)
+      (le-trans (misses-le e M fair (covers e t) w c) (passing-le-counts e (s .graph) (s .nodes) (covers e t) w walk kept))
+      (rw (← same-missed e M t (h .head .block) w c) (taken-bound M t h r a d L (states e M t w c) (taken e M t (some-set e s) fair false w c fine)))

@@ -59,6 +59,7 @@ module _ (k b n g : ℕ) (gk : (g - 1) * n < k) where
   pub fifo-law : Law (FIFO k) b n g (g - 1) 1
   fifo-law =
       record {
+        enough = omega arith;
         Known = Slow;
         wider = λ m R R' s i f r y h. recent-wider R' i f r (y h);
         other = λ m x R s u i v y h. recent-fifo x R s u i (y h);
@@ -78,6 +79,7 @@ module _ (k b : ℕ) (h : 0 < k) where
   pub fifo-one-law : Law (FIFO k) b 0 1 1 0
   fifo-one-law =
       record {
+        enough = omega arith;
         Known = λ m R s. Recent b 0 (k - 1) R s;
         wider = λ m R R' s i f r y. recent-wider R' i f r y;
         other = λ m x R s u i v y. recent-fifo x R s u i y;

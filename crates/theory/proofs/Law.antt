@@ -20,8 +20,9 @@ pub record Fair (M : Machine) : Type 0 where
   pub once : (x : ℕ) (s : M .State) → M .miss x s ≤ 1
 
 -- `Known m R s`: since b's last access all accesses were of R, at most n blocks, and m is saved. An access of b that misses costs c;
--- it is paid by d and the savings, and the first in a stay by a besides.
+-- it is paid by d and the savings, and the first in a stay by a besides, which is enough for any access.
 pub record Law (M : Machine) (b n c a d : ℕ) : Type 1 where
+  pub enough : c ≤ a + d
   pub Known : ℕ → List ℕ → M .State → Type 0
   pub wider :
       (m : ℕ) (R R' : List ℕ) (s : M .State) → ((y : ℕ) → 1 ≤ cnt y R → 1 ≤ cnt y R') → length R' ≤ n → cnt none R' ≡ 0 → Known m R s → Known m R' s

@@ -20,7 +20,6 @@ pub mod Steps
 pub mod Tally
 pub mod Arrivals
 pub mod Limits
-pub mod Chain
 pub mod Counting
 pub mod SumLaws
 pub mod Costs
@@ -38,6 +37,7 @@ pub mod Seen
 pub mod Printed
 pub mod Demand
 pub mod Accepted
+pub mod Unlimited
 pub mod Sorted
 pub mod Clear
 pub mod Decided

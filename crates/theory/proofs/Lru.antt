@@ -22,6 +22,7 @@ lru-fair k =
 pub lru-law : (k b n : ℕ) → n < k → Law (LRU k) b n 1 1 0
 lru-law k b n h =
     record {
+      enough = omega arith;
       Known = λ m R l. Recent b n 0 R l;
       wider = λ m R R' s i f r y. recent-wider R' i f r y;
       other = λ m x R s u i v y. recent-lru x R s u i y;

@@ -136,6 +136,7 @@ module _ (b n k : ℕ) (bb : b ≢ none) (nk : n < k) (k2 : 2 ≤ k) where
   pub nmru-law : Law (NMRU k) b n 1 (suc n) 0
   nmru-law =
       record {
+        enough = omega arith;
         Known = Kept;
         wider = λ m R R' s i f r q. record { few = f; real = r; f = q .f; cf = q .cf; held = held-wider R R' (q .f) s i (q .held) };
         other = λ m x R s u i v q.

@@ -13,12 +13,13 @@ use Rattle.paper.specs.declared.Verdict.the-variants.{Accepted}
 use Rattle.paper.specs.Machines.{none}
 use Rattle.paper.specs.Cases.{Fact, size, rangeOf, scopeOf, fetches}
 use Rattle.paper.specs.Facts.{nonePrevious, wrongOrder, badHead, badOrder, unfetched}
-use Rattle.paper.specs.Files.{u16At, u32At, endAt, trailerOf, edgesAt, loopsAt, factsAt, nodeAt, fromAt, toAt, loopAt, factEnd, factPlace, caseOf, readCase}
+use Rattle.paper.specs.Files.{u16At, u32At, endAt, trailerOf, edgesAt, loopPlace, factsAt, nodeAt, fromAt, toAt, loopAt, factEnd, factPlace, caseOf, readCase}
 use Rattle.paper.specs.Known.{Shaped}
 use Rattle.paper.specs.Rules.{Passes}
 use Rattle.paper.specs.Verdicts.{graphRules, headRule, orderRule, fetchRule, evidenceRules, bodyRules, turnRules, turnsFrom, factRules, wholeFileRules, verdict}
 use Rattle.paper.specs.OneFact.{graphBytes, fileWith}
 use Rattle.paper.specs.Demands.{withRows}
+use Rattle.paper.proofs.LoopSizes.{size-with, size-low, loop-ends, visits-same}
 use Rattle.paper.proofs.Meaning.{SoundEvidence}
 use Rattle.paper.proofs.RuleLaws.{past, accepted-on}
 use Rattle.paper.proofs.FileLaws.{laid}
@@ -74,10 +75,14 @@ module _ (f : List ℕ) (t : Fact) (rows : List ℕ) (kept : KeptLayout f (trail
         from = λ i l. graph-word (edgesAt one + 4 * i) (omega arith);
         to = λ i l. graph-word (edgesAt one + 4 * i + 2) (omega arith);
         loop = λ j l.
+            let v = trailerOf f .version in
+            let ends = loop-ends v j (trailerOf f .loops) l in
+            let low = size-low v in
             rw (
-              graph-word (loopsAt one + 8 * j) (omega arith),
-              graph-word (loopsAt one + 8 * j + 2) (omega arith),
-              graph-double (loopsAt one + 8 * j + 4) (omega arith),
+              graph-word (loopPlace one j) (omega arith),
+              graph-word (loopPlace one j + 2) (omega arith),
+              graph-double (loopPlace one j + 4) (omega arith),
+              visits-same v (u32At f (loopPlace one j + 8)) (u32At file (loopPlace one j + 8)) (λ n. graph-double (loopPlace one j + 8) (omega (arith, size-with v n))),
             )
             refl;
       }

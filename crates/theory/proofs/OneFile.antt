@@ -27,6 +27,7 @@ oneOf f =
       policy = trailerOf f .policy;
       ways = trailerOf f .ways;
       sets = trailerOf f .sets;
+      version = trailerOf f .version;
     }
 
 module _ (f : List ℕ) (t : Fact) (rows : List ℕ) (kept : KeptLayout f (trailerOf f)) where
@@ -133,6 +134,9 @@ module _ (f : List ℕ) (t : Fact) (rows : List ℕ) (kept : KeptLayout f (trail
       ap (λ (p : ℕ). u16At file p) (omega arith)
       ∙ word-is file (endAt file + 22) (1 ∷ []) (stands-left file (endAt file + 22) (words (1 ∷ [])) _ after-front) 0 (omega arith)
 
+  version : u8At file (endAt file + 27) ≡ u8At f (endAt f + 27)
+  version = back-byte 27 (omega arith) (omega arith)
+
   pub trailer-is : trailerOf file ≡ one
   unfolding trailerOf
   trailer-is =
@@ -144,13 +148,11 @@ module _ (f : List ℕ) (t : Fact) (rows : List ℕ) (kept : KeptLayout f (trail
         back-byte 24 (omega arith) (omega arith),
         back-byte 25 (omega arith) (omega arith),
         back-byte 26 (omega arith) (omega arith),
+        version,
       )
       refl
 
   -- rules 1 to 5
-  version : u8At file (endAt file + 27) ≡ u8At f (endAt f + 27)
-  version = back-byte 27 (omega arith) (omega arith)
-
   letter : (i : ℕ) → i < 4 → badLetter file i ≡ badLetter f i
   unfolding badLetter
   letter i l =
@@ -187,6 +189,7 @@ module _ (f : List ℕ) (t : Fact) (rows : List ℕ) (kept : KeptLayout f (trail
       record {
         long = omega (arith, file-length);
         letters = letters-same ∙ kept .letters;
+        version = kept .version;
         cache = kept .cache;
         numbers = numbers-kept;
         offsets = offsets-kept;

@@ -76,6 +76,7 @@ module _ (b n k : ℕ) (bb : b ≢ none) (n1 : n ≤ 1) where
   pub nmru-pair-law : Law (NMRU k) b n 1 1 0
   nmru-pair-law =
       record {
+        enough = omega arith;
         Known = λ m R s. Safe R s;
         wider = λ m R R' s w f r q. wider R R' s w f r q;
         other = λ m x R s u i v q. passed x R s u i v q;

@@ -1,3 +1,4 @@
+pub mod LoopBytes
 pub mod Words
 pub mod Joined
 pub mod Trailers

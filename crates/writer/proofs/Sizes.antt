@@ -1,10 +1,14 @@
 -- How long the file is, before a byte of it is written.
 use Prim.Native.Nat.{ℕ, zero, suc, _+_, _*_}
 use native.Mathlib.Omega.{arith}
+use native.Mathlib.Decide.{ℕ-discrete}
+use native.Mathlib.Nat.{mul-zero, mul-suc}
 use mathlib.Core.Path.{_≡_, refl, sym, _∙_, ap}
 use mathlib.Core.List.{List, [], _∷_, _++_}
 use lib.ListN.{length, getD, length-append}
 use Rattle.paper.specs.declared.Trailer.{Trailer}
+use borrow.Author.Tests.{eq-eqb, ne-eqb}
+use Rattle.paper.specs.Records.{withoutW, loopFields, loopSize}
 use Rattle.paper.specs.Files.{factsAt}
 use Rattle.paper.specs.Lists.{sumTo, each, spaced, part}
 use Rattle.paper.specs.OneFact.{words, headBytes}
@@ -16,14 +20,16 @@ unfolding spaced
 length-part l p zero = refl
 length-part l p (suc n) = ap suc (length-part l (p + 1) n)
 
-one-loop : (c : FileContent) (j : ℕ) → length (loopBytes (loopIn c j)) ≡ 8
-unfolding loopBytes
-one-loop c j = refl
+module _ (version : ℕ) (c : FileContent) where
+  one-loop : (j : ℕ) → length (loopBytes version (loopIn c j)) ≡ loopSize version
+  unfolding loopBytes loopSize loopFields
+  one-loop j = elim (ℕ-discrete version withoutW) [ yes h ↦ rw (eq-eqb version withoutW h) refl | no h ↦ rw (ne-eqb version withoutW h) refl ]
 
-pub loops-length : (c : FileContent) (n : ℕ) → length (each (λ j. loopBytes (loopIn c j)) n) ≡ 8 * n
-unfolding each
-loops-length c zero = refl
-loops-length c (suc n) = length-append (each (λ j. loopBytes (loopIn c j)) n) (loopBytes (loopIn c n)) ∙ omega (arith, loops-length c n, one-loop c n)
+  pub loops-length : (n : ℕ) → length (each (λ j. loopBytes version (loopIn c j)) n) ≡ loopSize version * n
+  unfolding each
+  loops-length zero = sym (mul-zero (loopSize version))
+  loops-length (suc n) =
+      length-append (each (λ j. loopBytes version (loopIn c j)) n) (loopBytes version (loopIn c n)) ∙ omega (arith, loops-length n, one-loop n, mul-suc (loopSize version) n)
 
 one-fact : (c : FileContent) (i : ℕ) → length (factBytes c i) ≡ 6 + 16 * rowsNamed c i
 unfolding factBytes

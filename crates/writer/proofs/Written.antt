@@ -17,7 +17,7 @@ use Rattle.paper.specs.Files.{factsAt}
 use Rattle.paper.specs.Lists.{each}
 use Rattle.paper.specs.OneFact.{words}
 use Rattle.paper.specs.Verdicts.{shapeRules}
-use Rattle.paper.specs.Writing.{FileContent, trailerIn, loopIn, rowsNamed, caseIn, loopBytes, trailerBytes, factBytes, fileOf, writtenFacts, writeVerdict, writeAnswer, outAfter}
+use Rattle.paper.specs.Writing.{FileContent, perLoop, trailerIn, loopIn, rowsNamed, caseIn, loopBytes, trailerBytes, factBytes, fileOf, writtenFacts, writeVerdict, writeAnswer, outAfter}
 use Rattle.paper.proofs.RuleLaws.{accepted-on, refused-on}
 use Rattle.paper.proofs.Sections.{length-words}
 use Rattle.layout.specs.declared.Layout.the-variants as Layouts
@@ -32,11 +32,15 @@ use Rattle.writer.specs.Answered.{roomRule, listedVerdict, Written}
 use Rattle.writer.proofs.Sizes.{loops-length, facts-length, trailer-length}
 
 -- rule 7 keeps a loop's ends below 65,536
-pub narrow : (t : Trailer) (loops heads rows : List ℕ) → Facts t loops heads rows → NarrowLoops loops
+pub narrow : (t : Trailer) (loops heads rows : List ℕ) → Facts t loops heads rows → NarrowLoops t loops
 narrow t loops heads rows k =
     record {
-      first = λ j l. let w = k .fits j (omega (arith, k .loops-whole)) in omega (arith, w .0, w .1, k .nodes-high);
-      last = λ j l. let w = k .fits j (omega (arith, k .loops-whole)) in omega (arith, w .1, k .nodes-high);
+      whole = k .loops-whole;
+      first = λ j l.
+          let w = k .fits j l in
+          let z : perLoop (t .version) * j + 0 ≡ perLoop (t .version) * j = omega arith in
+          rw z (omega (arith, w .0, w .1, k .nodes-high));
+      last = λ j l. let w = k .fits j l in omega (arith, w .1, k .nodes-high);
     }
 
 module _ (t : Trailer) (nodes edges loops heads rows : List ℕ) (k : Listed (content t nodes edges loops heads rows) t) where
@@ -48,21 +52,21 @@ module _ (t : Trailer) (nodes edges loops heads rows : List ℕ) (k : Listed (co
   pub file-parts :
       words nodes
       ++ (words edges
-      ++ (each (λ j. loopBytes (loopIn (ofLoops loops) j)) (t .loops) ++ (each (factBytes (ofFacts heads rows)) (t .facts) ++ trailerBytes t)))
+      ++ (each (λ j. loopBytes (t .version) (loopIn (ofLoops (t .version) loops) j)) (t .loops) ++ (each (factBytes (ofFacts heads rows)) (t .facts) ++ trailerBytes t)))
       ≡ fileOf (content t nodes edges loops heads rows)
   unfolding fileOf loopIn factBytes rowsNamed
   file-parts =
       ap
       (λ (s : Trailer). words nodes
       ++ (words edges
-      ++ (each (λ j. loopBytes (loopIn (ofLoops loops) j)) (s .loops) ++ (each (factBytes (ofFacts heads rows)) (s .facts) ++ trailerBytes s))))
+      ++ (each (λ j. loopBytes (t .version) (loopIn (ofLoops (t .version) loops) j)) (s .loops) ++ (each (factBytes (ofFacts heads rows)) (s .facts) ++ trailerBytes s))))
       (k .is)
 
   -- their lengths
   pub size-is : factsAt t + 6 * t .facts + 2 * length rows + 32 ≡ length (fileOf (content t nodes edges loops heads rows))
   size-is =
       let facts = each (factBytes (ofFacts heads rows)) (t .facts) in
-      let ring = each (λ j. loopBytes (loopIn (ofLoops loops) j)) (t .loops) in
+      let ring = each (λ j. loopBytes (t .version) (loopIn (ofLoops (t .version) loops) j)) (t .loops) in
       let rest = facts ++ trailerBytes t in
       let e : factsAt t + 6 * t .facts + 2 * length rows + 32 ≡ length (words nodes ++ (words edges ++ (ring ++ rest))) =
       omega (
@@ -73,7 +77,7 @@ module _ (t : Trailer) (nodes edges loops heads rows : List ℕ) (k : Listed (co
         length-append facts (trailerBytes t),
         length-words nodes,
         length-words edges,
-        loops-length (ofLoops loops) (t .loops),
+        loops-length (t .version) (ofLoops (t .version) loops) (t .loops),
         facts-length (ofFacts heads rows) (t .facts),
         trailer-length t,
         facts-fit .named,
@@ -110,7 +114,7 @@ module _ (c : FileContent) (out : List ℕ) (v : Verdict) (a : v ≡ shapeRules 
       (sym (refused-on (λ rest. shapeRules (caseIn c) (writtenFacts c rest)) (hands-rules c) (roomRule c (length out)) v a x e))
       (record { answer = refl; bytes = refl })
 
--- what rules 3 and 4 say: the numbers t, or a refusal
+-- what rules 2 to 4 say: the numbers t, or a refusal
 module _ (c : FileContent) where
   pub listing-out : (out : List ℕ) (x : Refusal) → listingOf c ≡ Layouts.Refused x → Written c out (writeVerdict c (length out)) (WriteAnswers.Refused x) out
   unfolding writeVerdict

@@ -5,7 +5,8 @@ ghost use Prim.Native.Nat.{_+_, _*_, _≤_};
 ghost use lib.ListN.{length};
 ghost use Rattle.paper.specs.Lists.{part};
 ghost use Rattle.paper.specs.OneFact.{words};
-ghost use Rattle.paper.specs.Writing.{numberBytes};
+ghost use Rattle.paper.specs.Records.{rowSize};
+ghost use Rattle.paper.specs.Writing.{numberBytes, perRow};
 ghost use Rattle.puts.specs.Put.{Put};
 
 // Puts a byte, and answers the place after it.
@@ -51,10 +52,10 @@ pub fn put_four(out: &mut [u8], at: usize, a: u16, b: u16, c: u16, d: u16) -> us
 
 // The eight numbers of a row, which stand from k on in the list.
 fn put_row(out: &mut [u8], at: usize, rows: &[u16], k: usize) -> usize
-    requires { ⌜ at + 16 ≤ length (now out) ⌝ }
-    requires { ⌜ k + 8 ≤ length (now rows) ⌝ }
-    ensures { λ r. ⌜ Put (now (out .entry)) at (words (part (now (rows .entry)) k 8)) r (now (out .exit)) ⌝ }
-    ensures { λ r. ⌜ r ≡ at + 16 ⌝ }
+    requires { ⌜ at + rowSize ≤ length (now out) ⌝ }
+    requires { ⌜ k + perRow ≤ length (now rows) ⌝ }
+    ensures { λ r. ⌜ Put (now (out .entry)) at (words (part (now (rows .entry)) k perRow)) r (now (out .exit)) ⌝ }
+    ensures { λ r. ⌜ r ≡ at + rowSize ⌝ }
 {
     let half = put_four(out, at, rows[k], rows[k + 1], rows[k + 2], rows[k + 3]);
     put_four(
@@ -69,10 +70,10 @@ fn put_row(out: &mut [u8], at: usize, rows: &[u16], k: usize) -> usize
 
 // n rows, from row `from` on.
 pub fn put_rows(out: &mut [u8], at: usize, rows: &[u16], from: usize, n: usize) -> usize
-    requires { ⌜ at + 16 * n ≤ length (now out) ⌝ }
-    requires { ⌜ 8 * (from + n) ≤ length (now rows) ⌝ }
-    ensures { λ r. ⌜ Put (now (out .entry)) at (words (part (now (rows .entry)) (8 * from) (8 * n))) r (now (out .exit)) ⌝ }
-    ensures { λ r. ⌜ r ≡ at + 16 * n ⌝ }
+    requires { ⌜ at + rowSize * n ≤ length (now out) ⌝ }
+    requires { ⌜ perRow * (from + n) ≤ length (now rows) ⌝ }
+    ensures { λ r. ⌜ Put (now (out .entry)) at (words (part (now (rows .entry)) (perRow * from) (perRow * n))) r (now (out .exit)) ⌝ }
+    ensures { λ r. ⌜ r ≡ at + rowSize * n ⌝ }
 {
     let mut to = at;
     let mut i = 0;

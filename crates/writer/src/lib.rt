@@ -4,6 +4,7 @@ ghost use Prim.Native.Nat.{_+_, _*_, _≤_};
 ghost use lib.Dec.{ltb};
 ghost use lib.ListN.{length};
 ghost use Rattle.paper.specs.Files.{factsAt};
+ghost use Rattle.paper.specs.Records.{bits16, headSize, trailerSize};
 ghost use Rattle.paper.specs.Rules.{rule};
 ghost use Rattle.paper.specs.Verdicts as Verdicts;
 ghost use Rattle.paper.specs.Writing as Writing;
@@ -38,12 +39,12 @@ fn put_file(
 ) -> usize
     requires { ⌜ Listed (content trailer (now nodes) (now edges) (now loops) (now heads) (now rows)) trailer ⌝ }
     requires { ⌜ Facts trailer (now loops) (now heads) (now rows) ⌝ }
-    requires { ⌜ factsAt trailer + 6 * trailer .facts + 2 * length (now rows) + 32 ≤ length (now out) ⌝ }
+    requires { ⌜ factsAt trailer + headSize * trailer .facts + bits16 * length (now rows) + trailerSize ≤ length (now out) ⌝ }
     ensures { λ r. ⌜ Put (now (out .entry)) 0 (Writing.fileOf (content trailer (now (nodes .entry)) (now (edges .entry)) (now (loops .entry)) (now (heads .entry)) (now (rows .entry)))) r (now (out .exit)) ⌝ }
 {
     let after_nodes = put_words(out, 0, nodes);
     let after_edges = put_words(out, after_nodes, edges);
-    let after_loops = put_loops(out, after_edges, loops, trailer.loops as usize);
+    let after_loops = put_loops(out, after_edges, trailer, loops);
     let after_facts = put_facts(out, after_loops, heads, rows, trailer.facts as usize);
     put_trailer(out, after_facts, trailer)
 }
@@ -93,8 +94,9 @@ fn write_listed(
     }
 }
 
-// "Refusals, in this order: 3, 4, 6 and 7; then for each fact in turn 12, 13, 15 and 16 …; then 20 if the file does not fit."
+// "Refusals, in this order: 3, 4, 6 and 7; then for each fact in turn 12, 13, 15 and 16 …; then 20 if the file does not fit"; and 2 "as its first".
 pub fn write(
+    version: u8,
     policy: u8,
     ways: u8,
     sets: u8,
@@ -105,9 +107,19 @@ pub fn write(
     rows: &[u16],
     out: &mut [u8],
 ) -> WriteAnswer
-    ensures { λ r. ⌜ Written (offered policy ways sets (now (nodes .entry)) (now (edges .entry)) (now (loops .entry)) (now (heads .entry)) (now (rows .entry))) (now (out .entry)) (Writing.writeVerdict (offered policy ways sets (now (nodes .entry)) (now (edges .entry)) (now (loops .entry)) (now (heads .entry)) (now (rows .entry))) (length (now (out .entry)))) r (now (out .exit)) ⌝ }
+    ensures { λ r. ⌜ Written (offered version policy ways sets (now (nodes .entry)) (now (edges .entry)) (now (loops .entry)) (now (heads .entry)) (now (rows .entry))) (now (out .entry)) (Writing.writeVerdict (offered version policy ways sets (now (nodes .entry)) (now (edges .entry)) (now (loops .entry)) (now (heads .entry)) (now (rows .entry))) (length (now (out .entry)))) r (now (out .exit)) ⌝ }
 {
-    let listing = lists::listing_of(policy, ways, sets, nodes, edges, loops, heads, rows);
+    let listing = lists::listing_of(
+        version,
+        policy,
+        ways,
+        sets,
+        nodes,
+        edges,
+        loops,
+        heads,
+        rows,
+    );
     match listing {
         Layout::Read(trailer) => write_listed(trailer, nodes, edges, loops, heads, rows, out),
         Layout::Refused(r) => WriteAnswer::Refused(r),

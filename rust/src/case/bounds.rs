@@ -43,7 +43,7 @@ impl<'a> Ledger<'a> {
         let fetching = graph.blocks.iter().enumerate().filter_map(|(node, block)| Some((node, (*block)?)));
         let fetchers = fetching.map(|(node, block)| Fetcher {
             set: geometry.set_of(block),
-            count: graph.count(node).expect("rule 10 holds"),
+            count: rules.count(graph, node),
             fact: cover.get(&node).copied(),
         });
         let mut ledger = Ledger { rules, geometry, fetchers: fetchers.collect(), charges: Vec::new() };
@@ -51,16 +51,18 @@ impl<'a> Ledger<'a> {
         ledger
     }
 
-    /// "For a fact: E is its entries, N the sum of counts of its nodes that fetch b."
+    /// "For a fact: E is its entries, N the sum of counts of its nodes that fetch b", and in place of E the lesser of
+    /// the two is charged.
     fn charge(&self, i: usize, fact: &Fact, graph: &Graph) -> Charge {
-        let entries = self.rules.entries(graph, fact.scope);
         let covered = self.fetchers.iter().filter(|fetcher| fetcher.fact == Some(i));
+        let fetches = covered.map(|fetcher| fetcher.count).sum();
+        let entries = self.rules.entered(self.rules.entries(graph, fact.scope), fetches);
         let stakes = Stakes {
             policy: self.geometry.shape.policy,
             ways: self.geometry.shape.ways as u128,
             limit: fact.limit as u128,
             entries,
-            fetches: covered.map(|fetcher| fetcher.count).sum(),
+            fetches,
         };
         let bound = self.rules.fact_bound(stakes);
         Charge { set: self.geometry.set_of(fact.block), limit: stakes.limit, entries, bound }

@@ -1,8 +1,8 @@
 //! The lists of a case file as they stand in it, right or wrong, and the writing of a file from them.
 
-use super::layout::{read_layout, Layout};
+use super::layout::{loops_have_w, read_layout, sizes, Layout};
 use super::rows::RowRecord;
-use super::WHOLE_GRAPH;
+use super::{NO_LIMIT, WHOLE_GRAPH};
 use crate::bytes::{put_list, take, take_array, take_list, Little};
 use crate::refusal::Refusal;
 
@@ -11,6 +11,22 @@ pub struct LoopRecord {
     pub first: u16,
     pub last: u16,
     pub bound: u32,
+    /// W, "over a whole walk its header is visited at most W times". A file of version 1 has none of its own.
+    pub visits: u32,
+}
+
+impl LoopRecord {
+    /// A loop without W.
+    pub fn new(first: u16, last: u16, bound: u32) -> LoopRecord {
+        LoopRecord { first, last, bound, visits: NO_LIMIT }
+    }
+
+    /// "Version 1 is read as without W".
+    fn read(from: &mut &[u8], version: u8) -> Option<LoopRecord> {
+        let ([first, last], bound) = (take_array(from)?, take(from)?);
+        let visits = if loops_have_w(version) { take(from)? } else { NO_LIMIT };
+        Some(LoopRecord { first, last, bound, visits })
+    }
 }
 
 #[derive(Clone, Debug, Default)]
@@ -28,9 +44,7 @@ impl Lists {
         while let (Some(from), Some(to)) = (take(&mut edges), take(&mut edges)) {
             lists.edges.push((from, to));
         }
-        while let (Some(first), Some(last), Some(bound)) = (take(&mut loops), take(&mut loops), take(&mut loops)) {
-            lists.loops.push(LoopRecord { first, last, bound });
-        }
+        lists.loops = std::iter::from_fn(|| LoopRecord::read(&mut loops, layout.version)).collect();
         lists
     }
 }
@@ -52,6 +66,7 @@ impl FactRecord {
 
 #[derive(Clone, Debug, Default)]
 pub struct Draft {
+    pub version: u8,
     pub policy: u8,
     pub ways: u8,
     pub sets: u8,
@@ -63,16 +78,26 @@ impl Draft {
     /// Reads a file's lists for a person to look at, facts as far as they go. Only rules 1 to 5 must hold.
     pub fn skim(file: &[u8]) -> Result<Draft, Refusal> {
         let layout = read_layout(file)?;
-        let shape = layout.geometry.shape;
+        let Layout { version, geometry, .. } = layout;
+        let [policy, ways, sets] = [geometry.shape.policy as u8, geometry.shape.ways as u8, geometry.sets as u8];
         let lists = Lists::read(&layout);
         let mut rest = layout.rest;
         let facts = (0..layout.facts).map_while(|_| skim_fact(&mut rest, &lists)).collect();
-        Ok(Draft { policy: shape.policy as u8, ways: shape.ways as u8, sets: layout.geometry.sets as u8, lists, facts })
+        Ok(Draft { version, policy, ways, sets, lists, facts })
     }
 
-    /// Where the facts begin: after 2 bytes a node, 4 an edge and 8 a loop.
+    /// Where edges, loops and facts begin, one section after the other.
+    fn starts(&self) -> [usize; 3] {
+        let Lists { nodes, edges, loops } = &self.lists;
+        let [node, edge, a_loop] = sizes(self.version);
+        let edges_start = node * nodes.len();
+        let loops_start = edges_start + edge * edges.len();
+        [edges_start, loops_start, loops_start + a_loop * loops.len()]
+    }
+
+    /// Where the facts begin.
     pub fn facts_start(&self) -> usize {
-        2 * self.lists.nodes.len() + 4 * self.lists.edges.len() + 8 * self.lists.loops.len()
+        self.starts()[2]
     }
 
     /// Where fact i begins, or would begin behind the last one.
@@ -91,6 +116,9 @@ impl Draft {
         for record in loops {
             put_list(&[record.first, record.last], &mut out);
             record.bound.put(&mut out);
+            if loops_have_w(self.version) {
+                record.visits.put(&mut out);
+            }
         }
         for fact in &self.facts {
             put_list(&[fact.scope, fact.block, fact.limit], &mut out);
@@ -101,14 +129,14 @@ impl Draft {
     }
 
     /// "four 32-bit offsets (nodes, edges, loops, facts); 16-bit numbers of nodes, edges, loops, facts; policy, ways,
-    /// sets, version 1, one byte each; then the four letters QMBT."
+    /// sets, version, one byte each; then the four letters QMBT."
     fn write_trailer(&self, out: &mut Vec<u8>) {
         let Lists { nodes, edges, loops } = &self.lists;
-        let edges_start = 2 * nodes.len();
-        let offsets = [0, edges_start, edges_start + 4 * edges.len(), self.facts_start()];
-        put_list(&offsets.map(|offset| offset as u32), out);
+        let offsets = self.starts().map(|offset| offset as u32);
+        0u32.put(out);
+        put_list(&offsets, out);
         put_list(&[nodes.len(), edges.len(), loops.len(), self.facts.len()].map(|number| number as u16), out);
-        put_list(&[self.policy, self.ways, self.sets, 1], out);
+        put_list(&[self.policy, self.ways, self.sets, self.version], out);
         out.extend_from_slice(b"QMBT");
     }
 }

@@ -1,7 +1,7 @@
 //! "The graph and its walks": nodes, edges and loops, and for each node the set of the loops around it.
 
 use super::draft::{Lists, LoopRecord};
-use super::WHOLE_GRAPH;
+use super::{LARGEST_COUNT, NO_LIMIT, WHOLE_GRAPH};
 use crate::machine::block_or_none;
 use std::collections::{BTreeMap, BTreeSet};
 use std::ops::RangeInclusive;
@@ -12,11 +12,14 @@ pub struct Loop {
     pub first: usize,
     pub last: usize,
     pub bound: u128,
+    /// W, where there is one: "over a whole walk its header is visited at most W times".
+    pub visits: Option<u128>,
 }
 
 impl Loop {
     fn read(record: &LoopRecord) -> Loop {
-        Loop { first: record.first.into(), last: record.last.into(), bound: record.bound.into() }
+        let visits = Some(record.visits.into()).filter(|_| record.visits != NO_LIMIT);
+        Loop { first: record.first.into(), last: record.last.into(), bound: record.bound.into(), visits }
     }
 
     /// "Its first node is its header."
@@ -109,12 +112,19 @@ impl Graph {
         reached
     }
 
-    /// "Count of a node: the product of B over all loops that contain it." None where it passes the largest count.
+    /// "A loop's header visits are the lesser of W and B times the header visits of the next loop out (1 outside all
+    /// loops)": those of the last of these loops, which are handed outermost first. Written out, that is the least of the
+    /// product of all B and, for each W, the product of it and the B of the loops further in.
+    pub fn header_visits(&self, nest: &[usize]) -> u128 {
+        let product = |inner: &[usize]| inner.iter().fold(1, |all: u128, &i| all.saturating_mul(self.loops[i].bound));
+        let from = |at: usize| Some(self.loops[nest[at]].visits?.saturating_mul(product(&nest[at + 1..])));
+        (0..nest.len()).filter_map(from).fold(product(nest), u128::min)
+    }
+
+    /// "a node's count is the header visits of its innermost loop". None where it passes the largest count.
     pub fn count(&self, node: usize) -> Option<u128> {
-        let bounds = self.around[node].iter().map(|&i| self.loops[i].bound);
-        bounds
-            .into_iter()
-            .try_fold(1, |count, bound| Some(count * bound).filter(|&count| count <= super::LARGEST_COUNT))
+        let nest: Vec<usize> = self.around[node].iter().copied().collect();
+        Some(self.header_visits(&nest)).filter(|&count| count <= LARGEST_COUNT)
     }
 
     /// The loops strictly around a scope, outermost first.

@@ -33,7 +33,7 @@ pub fn rule_6(lists: &Lists) -> Result<(), Refusal> {
     )
 }
 
-/// "loop's first above last, last not below n, B out of range, first not above that of the loop before it, or it crosses
+/// "7 also for W = 0"; "loop's first above last, last not below n, B out of range, first not above that of the loop before it, or it crosses
 /// an earlier loop". Up to the least bad loop all are nested or apart, so the loops that have begun and not ended form a
 /// stack, the innermost on top: a loop crosses an earlier one exactly if it ends after the top.
 pub fn rule_7(lists: &Lists) -> Result<(), Refusal> {
@@ -42,14 +42,15 @@ pub fn rule_7(lists: &Lists) -> Result<(), Refusal> {
     let mut open: Vec<u16> = Vec::new();
     refuse_least(
         7,
-        lists.loops.iter().map(|&LoopRecord { first, last, bound }| {
+        lists.loops.iter().map(|&LoopRecord { first, last, bound, visits }| {
             let after = before.replace(first) < Some(first);
             while open.last().is_some_and(|&end| end < first) {
                 open.pop();
             }
             let crosses = open.last().is_some_and(|&end| end < last);
             open.push(last);
-            first > last || usize::from(last) >= n || !(1..=LARGEST_BOUND).contains(&bound) || !after || crosses
+            let limited = (1..=LARGEST_BOUND).contains(&bound) && visits > 0;
+            first > last || usize::from(last) >= n || !limited || !after || crosses
         }),
     )
 }

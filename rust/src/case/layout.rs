@@ -11,11 +11,22 @@ pub const TRAILER: usize = 32;
 pub const LARGEST: [u16; 4] = [1_024, 4_096, 64, 256];
 const LEAST: [u16; 4] = [1, 0, 0, 0];
 
+/// "Refusals: 2 for versions other than 1 and 2".
+pub const VERSIONS: [u8; 2] = [1, 2];
+
+/// "Version 2 of the case file gives each loop a further 32-bit number W".
+pub fn loops_have_w(version: u8) -> bool {
+    version == 2
+}
+
 /// Bytes of one node, edge and loop.
-const SIZES: [u64; 3] = [2, 4, 8];
+pub fn sizes(version: u8) -> [usize; 3] {
+    [2, 4, if loops_have_w(version) { 12 } else { 8 }]
+}
 
 /// The sections' bytes. `rest` begins with the facts and ends at the trailer.
 pub struct Layout<'a> {
+    pub version: u8,
     pub geometry: Geometry,
     pub nodes: &'a [u8],
     pub edges: &'a [u8],
@@ -45,8 +56,8 @@ impl Trailer {
     /// Where nodes, edges, loops and facts begin when they follow each other "without gaps, from offset 0".
     fn starts(&self) -> [u64; 4] {
         let mut starts = [0; 4];
-        for (i, size) in SIZES.iter().enumerate() {
-            starts[i + 1] = starts[i] + size * u64::from(self.numbers[i]);
+        for (i, size) in sizes(self.version).into_iter().enumerate() {
+            starts[i + 1] = starts[i] + size as u64 * u64::from(self.numbers[i]);
         }
         starts
     }
@@ -70,13 +81,14 @@ pub fn read_layout(file: &[u8]) -> Result<Layout<'_>, Refusal> {
     let split = file.split_last_chunk::<TRAILER>();
     let (body, trailer) =
         split.and_then(|(body, last)| Some((body, Trailer::read(last)?))).ok_or(Refusal::new(1, 0))?;
-    demand(2, trailer.letters == *b"QMBT" && trailer.version == 1)?;
+    demand(2, trailer.letters == *b"QMBT" && VERSIONS.contains(&trailer.version))?;
     let geometry = Geometry::read(trailer.policy, trailer.ways, trailer.sets)?;
     demand(4, numbers_in_range(trailer.numbers.map(usize::from)))?;
     let starts = trailer.starts();
     demand(5, trailer.offsets.map(u64::from) == starts && starts[3] <= body.len() as u64)?;
     let [_, edges, loops, facts] = starts.map(|start| start as usize);
     Ok(Layout {
+        version: trailer.version,
         geometry,
         nodes: &body[..edges],
         edges: &body[edges..loops],

@@ -11,14 +11,29 @@ pub struct Stakes {
     pub policy: Policy,
     pub ways: u128,
     pub limit: u128,
+    /// The lesser of E and N.
     pub entries: u128,
     pub fetches: u128,
 }
 
 pub trait Rules {
-    /// "Entries of a loop: the product over the loops strictly around it. Empty products are 1."
+    /// "a node's count is the header visits of its innermost loop"
+    fn count(&self, graph: &Graph, node: usize) -> u128 {
+        graph.count(node).expect("rule 10 holds")
+    }
+
+    /// "its entries the lesser of W and that outer number": the header visits of the next loop out.
     fn entries(&self, graph: &Graph, scope: Scope) -> u128 {
-        graph.strictly_around(scope).iter().map(|&i| graph.loops[i].bound).product()
+        let outer = graph.header_visits(&graph.strictly_around(scope));
+        match scope {
+            Scope::Whole => outer,
+            Scope::Loop(i) => graph.loops[i].visits.map_or(outer, |most| outer.min(most)),
+        }
+    }
+
+    /// "Since N may now be below E, every bound uses the lesser of E and N in place of E."
+    fn entered(&self, entries: u128, fetches: u128) -> u128 {
+        entries.min(fetches)
     }
 
     /// "g = ceil(k/(l-1))"

@@ -4,14 +4,15 @@ use super::draft::{Draft, Lists};
 use super::facts::{take_rows, Fact, Ground};
 use super::graph_rules::{rule_6, rule_7};
 use super::layout::{numbers_in_range, read_layout};
-use super::{Content, Graph, Paper, RowRecord};
+use super::{Content, Graph, Paper, RowRecord, VERSIONS};
 use crate::bytes::take_array;
 use crate::machine::Geometry;
 use crate::refusal::{demand, Refusal};
 
-/// "Refusals, in this order: 3, 4, 6 and 7; then for each fact in turn 12, 13, 15 and 16, with their places, 15 standing
+/// "2 for versions other than 1 and 2, in the writer too, as its first"; "Refusals, in this order: 3, 4, 6 and 7; then for each fact in turn 12, 13, 15 and 16, with their places, 15 standing
 /// for a wrong number of rows; then 20 if the file does not fit." "Bytes past the file stay; on a refusal all do."
 pub fn write(content: &Content, out: &mut [u8]) -> Result<usize, Refusal> {
+    demand(2, VERSIONS.contains(&content.version))?;
     let geometry = Geometry::read(content.policy, content.ways, content.sets)?;
     demand(4, numbers_in_range(content.numbers()))?;
     let draft = content.draft().ok_or(Refusal::new(4, 0))?;

@@ -101,18 +101,18 @@ fn longest_listing(policy: u8) -> Vec<u8> {
     let lists = Lists {
         nodes: (0..256).collect(),
         edges: steps(256).collect(),
-        loops: (0..64).map(|i| LoopRecord { first: 4 * i, last: 4 * i + 3, bound: 1_000_000 - u32::from(i) }).collect(),
+        loops: (0..64).map(|i| LoopRecord::new(4 * i, 4 * i + 3, 1_000_000 - u32::from(i))).collect(),
     };
     let first = |block| block / 4 * 4;
     let rows = |block| fetched_once(first(block)..first(block) + 4, block);
     let fact = |block| FactRecord { scope: block / 4, block, limit: 2, rows: rows(block) };
-    Draft { policy, ways: 8, sets: 64, lists, facts: (0..256).map(fact).collect() }.write()
+    Draft { version: 1, policy, ways: 8, sets: 64, lists, facts: (0..256).map(fact).collect() }.write()
 }
 
 /// The shortest and the longest inputs: "more than 65,536 bytes" is longer than the program reads.
 fn at_the_limits() -> Vec<Vec<u8>> {
     let lists = Lists { nodes: (0..LARGEST[0]).collect(), edges: steps(LARGEST[0]).collect(), loops: Vec::new() };
-    let whole = Draft { policy: 0, ways: 1, sets: 64, lists, facts: Vec::new() }.write();
+    let whole = Draft { version: 1, policy: 0, ways: 1, sets: 64, lists, facts: Vec::new() }.write();
     let (graph, trailer) = whole.split_at(whole.len() - TRAILER);
     let padded = |length: usize| [graph, &vec![0; length - whole.len()], trailer].concat();
     let lengths = [LONGEST_INPUT - 1, LONGEST_INPUT, LONGEST_INPUT + 1, LONGEST_INPUT + 4_096, 3 * LONGEST_INPUT];

@@ -6,6 +6,7 @@ use super::{borders, Comparison, Settings};
 use crate::case::{Paper, NUMBERS};
 use crate::generate::cases::{sound, Plan};
 use crate::generate::damage::{damage, scatter, RULES};
+use crate::generate::pinched::pinched;
 use crate::pipe::{Pipe, Request};
 use crate::random::Random;
 use crate::tally::seconds;
@@ -42,6 +43,8 @@ pub fn run(pipe: &Pipe, settings: &Settings) -> Result<(), String> {
     tally.demand(5, RULES.into_iter().chain([0]), AT_LEAST)?;
     tally.seconds.demand(&seconds::NUMBERS, AT_LEAST / 5)?;
     tally.dead.demand(AT_LEAST / 5)?;
+    kinds.nests.demand(AT_LEAST)?;
+    kinds.nests.demand_near(AT_LEAST / 5)?;
     again.finish()
 }
 
@@ -55,7 +58,7 @@ fn check(random: &mut Random, file: Vec<u8>, numbers: usize) -> Request {
 
 fn sound_file(random: &mut Random, kinds: &mut Kinds) -> Asked {
     let plan = if random.below(400) == 0 { Plan::large(random) } else { Plan::any(random) };
-    let draft = sound(random, &plan, &Paper);
+    let draft = if random.chance(5) { pinched(random, &Paper) } else { sound(random, &plan, &Paper) };
     kinds.add(&draft);
     (draft.write(), NUMBERS + random.pick(&[0, 0, 1, 7, 40]))
 }

@@ -30,9 +30,10 @@ fn small_frames() -> Vec<Request> {
     ]
 }
 
-/// Lists of so many numbers, all 0, but that policy, ways and sets are in range.
+/// Lists of so many numbers, all 0, but that version, policy, ways and sets are in range.
 fn content([nodes, edges, loops, heads, rows]: [usize; 5]) -> Content {
     Content {
+        version: 2,
         policy: 1,
         ways: 2,
         sets: 1,
@@ -106,7 +107,7 @@ fn too_large() -> Vec<(Vec<u8>, &'static [u8])> {
         find(0, room::FOUND + 1),
     ];
     let mut frames: Vec<(Vec<u8>, &[u8])> = whole.iter().map(|frame| (frame.encode(), &[TOO_LARGE][..])).collect();
-    for (head, lengths) in [(&[4, 0, 1, 1][..], 8), (&[5], 8), (&[6, 0, 1, 1], 24), (&[7, 0, 0, 0, 0], 8)] {
+    for (head, lengths) in [(&[4, 0, 1, 1][..], 8), (&[5], 8), (&[6, 1, 0, 1, 1], 24), (&[7, 0, 0, 0, 0], 8)] {
         frames.push(([head, &vec![0xff; lengths]].concat(), &[CUT_SHORT, TOO_LARGE]));
     }
     frames

@@ -1,5 +1,6 @@
 //! What the sound files of a comparison were like.
 
+use super::nests::Nests;
 use crate::case::{Draft, FactRecord, Graph, Paper, Row};
 use crate::generate::evidence::Question;
 use crate::machine::Geometry;
@@ -17,6 +18,7 @@ pub struct Kinds {
     larger: u64,
     /// Rows by their number.
     rows: [u64; 10],
+    pub nests: Nests,
 }
 
 fn is_larger(draft: &Draft, graph: &Graph, fact: &FactRecord) -> bool {
@@ -34,6 +36,7 @@ impl Kinds {
         self.ways[usize::from(draft.ways)] += 1;
         *(if draft.sets == 1 { &mut self.one_set } else { &mut self.several_sets }) += 1;
         self.depths[depth.min(7)] += 1;
+        self.nests.add(draft);
         for fact in &draft.facts {
             self.facts += 1;
             self.larger += u64::from(is_larger(draft, &graph, fact));
@@ -48,5 +51,6 @@ impl Kinds {
         println!("  with loops nested 0 to 7 deep: {:?}", self.depths);
         println!("  facts: {}, {} of them with more evidence than needed", self.facts, self.larger);
         println!("  rows by number, 0 to 9: {:?}", self.rows);
+        self.nests.report();
     }
 }

@@ -10,6 +10,7 @@ pub mod finds;
 pub mod frames;
 pub mod gathering;
 mod kinds;
+mod nests;
 pub mod walks;
 pub mod writes;
 

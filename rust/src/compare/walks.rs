@@ -2,10 +2,12 @@
 //! numbers that `check` wrote.
 
 use super::again::Again;
+use super::nests::Nests;
 use super::Settings;
 use crate::case::{judge, Bounds, Case, Draft, Paper, NUMBERS};
 use crate::generate::braids::braid;
 use crate::generate::cases::{sound, Plan};
+use crate::generate::pinched::pinched;
 use crate::generate::states::contents;
 use crate::pipe::{Answer, Body, Pipe, Request};
 use crate::random::Random;
@@ -26,7 +28,13 @@ struct Seen {
     misses: u128,
     numbers: u64,
     reached: u64,
+    nests: Nests,
+    /// Walks that visit a header as often as its W allows.
+    used_up: u64,
 }
+
+/// How often each kind of W must be seen.
+const AT_LEAST: u64 = 50;
 
 pub fn run(pipe: &Pipe, settings: &Settings) -> Result<(), String> {
     let mut random = Random::for_part(settings.seed, "walks");
@@ -46,15 +54,22 @@ pub fn run(pipe: &Pipe, settings: &Settings) -> Result<(), String> {
     }
     println!("walks: {} through {} files, {} visits, {} misses", seen.walks, seen.files, seen.visits, seen.misses);
     println!("  of {} bounds (totals, sets and facts) {} were reached and none exceeded", seen.numbers, seen.reached);
+    seen.nests.report();
+    println!("  walks that visit a header as often as W allows: {}", seen.used_up);
+    seen.nests.demand(AT_LEAST)?;
+    if seen.used_up < AT_LEAST {
+        return Err("too few walks used up a W".to_string());
+    }
     again.finish()
 }
 
 fn small_file(random: &mut Random) -> Draft {
-    if random.chance(50) {
-        return braid(random, &Paper);
-    }
     let plan = Plan::small(random);
-    sound(random, &plan, &Paper)
+    match random.below(10) {
+        0..=4 => braid(random, &Paper),
+        5 => pinched(random, &Paper),
+        _ => sound(random, &plan, &Paper),
+    }
 }
 
 /// The numbers that `check` wrote.
@@ -85,9 +100,11 @@ fn walk_through(random: &mut Random, draft: &Draft, answer: &Answer, seen: &mut 
         seen.walks += 1;
         seen.visits += walker.walk.len() as u64;
         seen.misses += walker.misses.total;
+        seen.used_up += u64::from(walker.uses_up_visits());
         most = most.or_more(&walker.misses);
     }
     seen.files += 1;
+    seen.nests.add(draft);
     seen.numbers += 1 + bounds.sets.len() as u64 + bounds.facts.len() as u64;
     seen.reached += most.reaching(&bounds) as u64;
     Ok(())

@@ -1,9 +1,9 @@
 //! Small files that come close to their bounds: a block again and again, with few others between two of its fetches and
 //! more than the cache holds over the whole, on a chain of nodes with up to two loops.
 
-use super::facts;
 use super::graphs::steps;
-use crate::case::{Draft, Graph, Lists, LoopRecord, Rules};
+use super::{facts, nests};
+use crate::case::{Draft, Graph, Lists, LoopRecord, Rules, VERSIONS};
 use crate::machine::{Geometry, Shape};
 use crate::random::Random;
 
@@ -12,13 +12,14 @@ pub fn braid(random: &mut Random, rules: &dyn Rules) -> Draft {
     let ways = if random.chance(80) { ways.min(4) } else { ways };
     let geometry = Geometry::read(policy, ways, 1).expect("fewer ways are in range as well");
     let nodes = strands(random, ways.into());
-    let loops = two_loops(random, nodes.len() as u16);
+    let version = random.pick(&VERSIONS);
+    let loops = two_loops(random, nodes.len() as u16, version);
     let back = loops.iter().map(|record| (record.last, record.first));
     let mut edges: Vec<(u16, u16)> = steps(nodes.len() as u16).chain(back).collect();
     edges.sort();
     let lists = Lists { nodes, edges, loops };
     let facts = facts::facts(random, geometry, &Graph::new(&lists), rules, 200);
-    Draft { policy, ways, sets: 1, lists, facts }
+    Draft { version, policy, ways, sets: 1, lists, facts }
 }
 
 /// Block 0, some other blocks, block 0, some other blocks, and so on.
@@ -35,13 +36,16 @@ fn strands(random: &mut Random, ways: usize) -> Vec<u16> {
 }
 
 /// No loop, one, or two nested ones.
-fn two_loops(random: &mut Random, n: u16) -> Vec<LoopRecord> {
+fn two_loops(random: &mut Random, n: u16, version: u8) -> Vec<LoopRecord> {
     let mut loops = Vec::new();
-    let (mut first, mut last) = (0, n - 1);
+    let (mut first, mut last, mut outer) = (0, n - 1, 1);
     for _ in 0..random.below(3) {
         first = random.within(first.into()..=last.into()) as u16;
         last = random.within(first.into()..=last.into()) as u16;
-        loops.push(LoopRecord { first, last, bound: random.within(1..=4) as u32 });
+        let bound = random.within(1..=4) as u32;
+        let visits = nests::visits(random, version, bound, outer);
+        loops.push(LoopRecord { first, last, bound, visits });
+        outer = nests::header_visits(bound, visits, outer);
         if first == last {
             break;
         }

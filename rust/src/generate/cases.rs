@@ -1,13 +1,14 @@
 //! Sound case files, by a plan.
 
 use super::{facts, graphs, palette, sets};
-use crate::case::{Draft, Graph, Rules};
+use crate::case::{Draft, Graph, Rules, VERSIONS};
 use crate::machine::{Geometry, Shape};
 use crate::random::Random;
 
 /// How large a file is to be.
 #[derive(Clone, Debug)]
 pub struct Plan {
+    pub version: u8,
     pub nodes: usize,
     /// How deep loops may be nested.
     pub depth: usize,
@@ -31,6 +32,7 @@ impl Plan {
     pub fn any(random: &mut Random) -> Plan {
         let most = random.pick(&[4, 12, 24, 40]);
         Plan {
+            version: random.pick(&VERSIONS),
             nodes: random.within(1..=most),
             depth: random.within(0..=6),
             bound: random.pick(&[2, 4, 10]),
@@ -74,6 +76,7 @@ impl Plan {
         let (policy, ways) = random.pick(&Shape::all_numbers());
         let ways = if random.chance(70) { ways.min(4) } else { ways };
         Plan {
+            version: random.pick(&VERSIONS),
             nodes: random.within(1..=16),
             depth: random.within(0..=4),
             bound: random.pick(&[2, 3, 6]),
@@ -97,5 +100,5 @@ pub fn sound(random: &mut Random, plan: &Plan, rules: &dyn Rules) -> Draft {
     let blocks = palette(random, plan.blocks, geometry.sets);
     let lists = graphs::lists(random, plan, &blocks);
     let facts = facts::facts(random, geometry, &Graph::new(&lists), rules, plan.rows);
-    Draft { policy, ways, sets, lists, facts }
+    Draft { version: plan.version, policy, ways, sets, lists, facts }
 }

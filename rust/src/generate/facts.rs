@@ -34,7 +34,7 @@ pub fn facts(
 }
 
 /// A fact for the question, if one stands.
-fn fact(random: &mut Random, question: &Question) -> Option<FactRecord> {
+pub fn fact(random: &mut Random, question: &Question) -> Option<FactRecord> {
     question.graph.fetchers(question.scope, question.block).next()?;
     let (least, ways) = (question.least_limit()?, question.geometry.shape.ways);
     if least > ways {

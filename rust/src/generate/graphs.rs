@@ -1,7 +1,8 @@
 //! Random graphs that keep rules 6 to 10 and 26, with loops nested as deep as asked.
 
 use super::cases::Plan;
-use crate::case::{Graph, Lists, LoopRecord, LARGEST, LARGEST_BOUND};
+use super::nests;
+use crate::case::{Graph, Lists, LARGEST};
 use crate::machine::NONE;
 use crate::random::Random;
 use std::collections::BTreeSet;
@@ -19,11 +20,9 @@ pub fn lists(random: &mut Random, plan: &Plan, blocks: &[u16]) -> Lists {
         block => block,
     };
     let nodes = (0..n).map(|_| node(random)).collect();
-    let mut loops = Vec::new();
-    nest(random, (0, n - 1), plan.depth, plan, &mut loops);
-    loops.truncate(LARGEST[2].into());
+    let loops = nests::loops(random, plan);
     let mut lists = Lists { nodes, edges: Vec::new(), loops };
-    temper(&mut lists);
+    nests::temper(random, plan.version, &mut lists);
     lists.edges = edges(random, plan, &Graph::new(&lists));
     enliven(&mut lists);
     lists
@@ -45,40 +44,6 @@ pub fn enliven(lists: &mut Lists) {
         live.insert(node);
     }
     lists.edges.sort();
-}
-
-/// Loops within the range, outer ones first: an inner loop begins after its outer loop's header, so headers differ.
-fn nest(random: &mut Random, (first, last): (usize, usize), depth: usize, plan: &Plan, loops: &mut Vec<LoopRecord>) {
-    let mut node = first;
-    while node <= last && depth > 0 {
-        if random.chance(45) {
-            // The larger of two draws: what is nested deep needs room.
-            let end = node + random.below(last - node + 1).max(random.below(last - node + 1));
-            loops.push(LoopRecord { first: node as u16, last: end as u16, bound: bound(random, plan) });
-            nest(random, (node + 1, end), depth - 1, plan, loops);
-            node = end;
-        }
-        node += 1;
-    }
-}
-
-fn bound(random: &mut Random, plan: &Plan) -> u32 {
-    if plan.large_bounds && random.chance(8) {
-        let any = random.within(1..=LARGEST_BOUND as usize) as u32;
-        return random.pick(&[LARGEST_BOUND, any]);
-    }
-    random.within(1..=plan.bound) as u32
-}
-
-/// Takes bounds back to 1, inner ones first, until no count is too large.
-fn temper(lists: &mut Lists) {
-    for i in (0..lists.loops.len()).rev() {
-        let graph = Graph::new(lists);
-        if (0..lists.nodes.len()).all(|node| graph.count(node).is_some()) {
-            break;
-        }
-        lists.loops[i].bound = 1;
-    }
 }
 
 /// Edges that keep rules 8 and 9: mostly to the next node, some further ahead, and back to the headers around.

@@ -6,6 +6,8 @@ pub mod damage;
 pub mod evidence;
 mod facts;
 pub mod graphs;
+pub mod nests;
+pub mod pinched;
 pub mod states;
 pub mod traces;
 

@@ -3,14 +3,25 @@
 use super::Break;
 use crate::case::{Draft, FactRecord, Lists, LoopRecord, Row, WHOLE_GRAPH};
 use crate::generate::graphs::steps;
-use crate::machine::SetState;
+use crate::machine::{SetState, NONE};
 
 /// The block that each file's fact is about.
 const B: u16 = 10;
 
 /// A break for each wrong rule, in the order of `wrong::ALL`.
-pub fn all() -> [Break; 7] {
-    [fifo_again(), nmru_thrice(), nmru_thrice(), fifo_again(), entered_twice(), fifo_again(), own_block()]
+pub fn all() -> Vec<Break> {
+    vec![
+        fifo_again(),
+        nmru_thrice(),
+        nmru_thrice(),
+        fifo_again(),
+        entered_twice(),
+        fifo_again(),
+        own_block(),
+        visited_in_each_stay(),
+        visited_in_each_stay(),
+        left_early(),
+    ]
 }
 
 fn blocks(list: &[u16]) -> Row {
@@ -24,7 +35,7 @@ fn chain((policy, ways): (u8, u8), nodes: &[u16], limit: u16, rows: &[Row], star
     let facts = vec![FactRecord { scope: WHOLE_GRAPH, block: B, limit, rows }];
     Break {
         walk: (0..nodes.len()).collect(),
-        draft: Draft { policy, ways, sets: 1, lists, facts },
+        draft: Draft { version: 1, policy, ways, sets: 1, lists, facts },
         contents: vec![start],
     }
 }
@@ -59,14 +70,41 @@ fn entered_twice() -> Break {
     let lists = Lists {
         nodes: vec![1, B],
         edges: vec![(0, 1), (1, 0), (1, 1)],
-        loops: vec![LoopRecord { first: 0, last: 1, bound: 2 }, LoopRecord { first: 1, last: 1, bound: 2 }],
+        loops: vec![LoopRecord::new(0, 1, 2), LoopRecord::new(1, 1, 2)],
     };
     let facts = vec![FactRecord { scope: 1, block: B, limit: 1, rows: vec![blocks(&[]).record()] }];
-    let draft = Draft { policy: 0, ways: 1, sets: 1, lists, facts };
+    let draft = Draft { version: 1, policy: 0, ways: 1, sets: 1, lists, facts };
     Break { draft, walk: vec![0, 1, 1, 0, 1, 1], contents: vec![SetState::EMPTY] }
 }
 
 /// Node 1 fetches another block between the two fetches of b, and the last row does not say so.
 fn own_block() -> Break {
     chain((0, 1), &[B, 1, B], 1, &[Row::NotSince, blocks(&[]), blocks(&[])], SetState::EMPTY)
+}
+
+/// Two blocks push each other out, twice in each of two stays. W allows the inner loop's header just that many visits, and
+/// the outer loop's W is no limit of the inner loop's.
+fn visited_in_each_stay() -> Break {
+    let lists = Lists {
+        nodes: vec![NONE, B, 1],
+        edges: vec![(0, 1), (1, 2), (2, 0), (2, 1)],
+        loops: vec![
+            LoopRecord { visits: 2, ..LoopRecord::new(0, 2, 2) },
+            LoopRecord { visits: 4, ..LoopRecord::new(1, 2, 2) },
+        ],
+    };
+    let draft = Draft { version: 2, policy: 0, ways: 1, sets: 1, lists, facts: Vec::new() };
+    Break { draft, walk: vec![0, 1, 2, 1, 2, 0, 1, 2, 1, 2], contents: vec![SetState::EMPTY] }
+}
+
+/// Each stay in the inner loop takes one of W visits, not B of them: so there are three stays, and each misses.
+fn left_early() -> Break {
+    let lists = Lists {
+        nodes: vec![1, B],
+        edges: vec![(0, 1), (1, 0), (1, 1)],
+        loops: vec![LoopRecord::new(0, 1, 3), LoopRecord { visits: 3, ..LoopRecord::new(1, 1, 2) }],
+    };
+    let facts = vec![FactRecord { scope: 1, block: B, limit: 1, rows: vec![blocks(&[]).record()] }];
+    let draft = Draft { version: 2, policy: 0, ways: 1, sets: 1, lists, facts };
+    Break { draft, walk: vec![0, 1, 0, 1, 0, 1], contents: vec![SetState::EMPTY] }
 }

@@ -38,7 +38,7 @@ pub fn run(pipe: Option<&Pipe>) -> Result<(), String> {
 
 fn through(pipe: &Pipe) -> Result<(), String> {
     let mut again = Again::new(pipe, None);
-    for file in fixed::all().map(|found| found.draft.write()) {
+    for file in fixed::all().iter().map(|found| found.draft.write()) {
         again.add(&file)?;
         agree(pipe, &[Request::Check { file, numbers: vec![0; NUMBERS] }])?;
     }

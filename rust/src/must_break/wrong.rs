@@ -5,7 +5,7 @@ use crate::case::{Graph, Paper, Rules, Scope, Stakes};
 use crate::machine::Policy;
 use std::collections::BTreeSet;
 
-pub const ALL: [Wrong; 7] = [
+pub const ALL: [Wrong; 10] = [
     Wrong { name: "LRU's fact bound E used for FIFO", rules: &LruForFifo },
     Wrong { name: "(l-1) times E for NMRU with l >= 3", rules: &FactorTooSmall },
     Wrong { name: "E for NMRU with l >= 3", rules: &FactorForgotten },
@@ -13,6 +13,9 @@ pub const ALL: [Wrong; 7] = [
     Wrong { name: "entries without the outermost loop", rules: &OutermostForgotten },
     Wrong { name: "k-l+2 in the set's floor", rules: &DivisorTooLarge },
     Wrong { name: "the edge rule without u's own block", rules: &OwnBlockForgotten },
+    Wrong { name: "W used as B, for each stay: the lesser of W and B as header visits", rules: &WholeForStay },
+    Wrong { name: "the outer loop's W for the loops inside it", rules: &OuterForInner },
+    Wrong { name: "W/B entries", rules: &FullStays },
 ];
 
 struct LruForFifo;
@@ -77,5 +80,35 @@ struct OwnBlockForgotten;
 impl Rules for OwnBlockForgotten {
     fn passed_on(&self, held: &BTreeSet<u16>, _own: Option<u16>) -> BTreeSet<u16> {
         held.clone()
+    }
+}
+
+struct WholeForStay;
+
+impl Rules for WholeForStay {
+    fn count(&self, graph: &Graph, node: usize) -> u128 {
+        let innermost = graph.loops_around(node).last().map(|&i| graph.loops[i]);
+        innermost.map_or(1, |l| l.visits.map_or(Paper.count(graph, node), |most| most.min(l.bound)))
+    }
+}
+
+struct OuterForInner;
+
+impl Rules for OuterForInner {
+    fn count(&self, graph: &Graph, node: usize) -> u128 {
+        let limits = graph.loops_around(node).iter().filter_map(|&i| graph.loops[i].visits);
+        limits.fold(Paper.count(graph, node), u128::min)
+    }
+}
+
+struct FullStays;
+
+impl Rules for FullStays {
+    fn entries(&self, graph: &Graph, scope: Scope) -> u128 {
+        let right = Paper.entries(graph, scope);
+        match scope {
+            Scope::Loop(i) => graph.loops[i].visits.map_or(right, |most| right.min(most / graph.loops[i].bound)),
+            Scope::Whole => right,
+        }
     }
 }

@@ -54,8 +54,8 @@ impl Request {
                 put_list(numbers, &mut out);
             }
             Request::Write { content, out: lent } => {
-                let Content { policy, ways, sets, nodes, edges, loops, heads, rows } = content;
-                put_list(&[*policy, *ways, *sets], &mut out);
+                let Content { version, policy, ways, sets, nodes, edges, loops, heads, rows } = content;
+                put_list(&[*version, *policy, *ways, *sets], &mut out);
                 let lengths = [nodes.len(), edges.len(), loops.len(), heads.len(), rows.len(), lent.len()];
                 put_lengths(lengths, &mut out);
                 put_list(nodes, &mut out);

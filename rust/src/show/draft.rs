@@ -1,6 +1,6 @@
 //! The lists of a case file, and set states, in the paper's words.
 
-use crate::case::{Draft, FactRecord, Row, RowRecord, WHOLE_GRAPH};
+use crate::case::{Draft, FactRecord, LoopRecord, Row, RowRecord, NO_LIMIT, WHOLE_GRAPH};
 use crate::machine::{block_or_none, Outcome, SetState};
 use crate::walk::Walker;
 
@@ -34,16 +34,24 @@ fn fact((i, fact): (usize, &FactRecord)) -> String {
     format!("  fact {i}: {scope}, block {}, l = {}, rows {rows}\n", block(fact.block), fact.limit)
 }
 
+fn visits(record: &LoopRecord) -> String {
+    if record.visits == NO_LIMIT {
+        return String::new();
+    }
+    format!(" and W = {}", record.visits)
+}
+
 pub fn draft(draft: &Draft) -> String {
     let lists = &draft.lists;
     let policy = ["LRU", "FIFO", "NMRU"].get(usize::from(draft.policy)).unwrap_or(&"no policy");
     let nodes = lists.nodes.iter().enumerate().map(|(node, &number)| format!("{node} fetches {}", block(number)));
     let edges = lists.edges.iter().map(|(from, to)| format!("{from}-{to}"));
     let loops = lists.loops.iter().enumerate();
-    let loops = loops.map(|(i, l)| format!("loop {i} is {} to {} with B = {}", l.first, l.last, l.bound));
+    let loops = loops.map(|(i, l)| format!("loop {i} is {} to {} with B = {}{}", l.first, l.last, l.bound, visits(l)));
     let facts: String = draft.facts.iter().enumerate().map(fact).collect();
     format!(
-        "  machine: {policy}, ways {}, sets {}\n  nodes: {}\n  edges: {}\n  loops: {}\n{facts}",
+        "  version {}, machine: {policy}, ways {}, sets {}\n  nodes: {}\n  edges: {}\n  loops: {}\n{facts}",
+        draft.version,
         draft.ways,
         draft.sets,
         join(nodes),

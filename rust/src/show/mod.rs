@@ -57,13 +57,13 @@ pub fn request(request: &Request) -> String {
 
 /// A content: its lists as records where they are whole, and as they were handed.
 fn lists(content: &Content) -> String {
-    let Content { policy, ways, sets, nodes, edges, loops, heads, rows } = content;
+    let Content { version, policy, ways, sets, nodes, edges, loops, heads, rows } = content;
     let records = match content.draft() {
         Some(lists) => draft(&lists),
         None => "  the lists are no whole records\n".to_string(),
     };
     let numbers = [words(nodes), words(edges), words(loops), words(heads), words(rows)].join("\n    ");
-    format!("{records}  the lists, policy {policy}, {ways} ways, {sets} sets:\n    {numbers}\n")
+    format!("{records}  the lists, version {version}, policy {policy}, {ways} ways, {sets} sets:\n    {numbers}\n")
 }
 
 fn arguments(request: &Request) -> String {

@@ -6,7 +6,7 @@ mod misses;
 pub use limits::{is_walk, keeps_limits};
 pub use misses::{Measure, Misses, Number};
 
-use crate::case::Case;
+use crate::case::{Case, Loop};
 use crate::machine::{load, CacheSet, Outcome, SetState};
 use crate::random::Random;
 
@@ -26,8 +26,9 @@ impl Bent {
 pub struct Walker<'a> {
     case: &'a Case,
     cache: Vec<Box<dyn CacheSet>>,
-    /// For each loop, the visits of its header in the present stay.
+    /// For each loop, the visits of its header in the present stay, and in all.
     header_visits: Vec<u128>,
+    all_visits: Vec<u128>,
     pub walk: Vec<usize>,
     /// For each visit, what its fetch was; None where the node fetches nothing.
     pub outcomes: Vec<Option<Outcome>>,
@@ -41,6 +42,7 @@ impl<'a> Walker<'a> {
             case,
             cache: contents.iter().map(|state| load(case.geometry.shape, state)).collect(),
             header_visits: vec![0; case.graph.loops.len()],
+            all_visits: vec![0; case.graph.loops.len()],
             walk: Vec::new(),
             outcomes: Vec::new(),
             misses: Misses::none(contents.len(), case.facts.len()),
@@ -54,10 +56,15 @@ impl<'a> Walker<'a> {
 
     /// Whether the walk keeps the limits with this visit as well: only a header's visits count.
     fn may_visit(&self, next: usize) -> bool {
-        match self.case.graph.loop_of_header(next) {
-            Some(i) => !self.inside(i) || self.header_visits[i] < self.case.graph.loops[i].bound,
-            None => true,
-        }
+        let Some(i) = self.case.graph.loop_of_header(next) else { return true };
+        let Loop { bound, visits, .. } = self.case.graph.loops[i];
+        let in_the_stay = !self.inside(i) || self.header_visits[i] < bound;
+        in_the_stay && visits.is_none_or(|most| self.all_visits[i] < most)
+    }
+
+    /// Whether some header has been visited as often as its W allows.
+    pub fn uses_up_visits(&self) -> bool {
+        self.case.graph.loops.iter().zip(&self.all_visits).any(|(l, &visits)| l.visits == Some(visits))
     }
 
     /// The nodes that the walk may visit next.
@@ -72,6 +79,7 @@ impl<'a> Walker<'a> {
         if let Some(i) = self.case.graph.loop_of_header(node) {
             let before = if self.inside(i) { self.header_visits[i] } else { 0 };
             self.header_visits[i] = before + 1;
+            self.all_visits[i] += 1;
         }
         self.walk.push(node);
         let outcome = self.case.graph.blocks[node].map(|block| self.fetch(node, block));

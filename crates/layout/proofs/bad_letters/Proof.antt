@@ -12,4 +12,4 @@ returns c = cc
 pub bad-letters-spec : {M : Type 1} → statement M
 bad-letters-spec =
     tie.close
-    (tie.spec (λ c κs. search needs) (λ c κs. search needs) (λ c. search needs) (λ c. search needs) returns)
+    (tie.spec (λ c κs. search needs) (λ c κs. search needs) (λ c. search needs) (λ c. search needs) (λ c κs. search needs) returns)

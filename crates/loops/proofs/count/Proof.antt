@@ -8,7 +8,7 @@ use native.Mathlib.Decide.{decLt}
 use native.Mathlib.Numerals.{add-one-dec}
 use mathlib.Core.Logic.{dite}
 use mathlib.Core.WellFounded.{WellFounded, InvImage·wf}
-use mathlib.Core.Bool.{Bool}
+use mathlib.Core.Bool.{Bool, cond}
 use mathlib.Core.List.{List, [], _∷_}
 use lib.ListN.{length, getD}
 use lib.Dec.{lit<}
@@ -46,9 +46,10 @@ use denote.Triple.Entry.{Vals, onEntry}
 use denote.Triple.Spec.{tripleOf}
 use denote.Triple.Table.{cited}
 use Rattle.paper.specs.declared.Loop.{Loop}
+use Rattle.paper.specs.Cases.{inside}
 use Rattle.paper.proofs.Loop as T
 use Rattle.paper.proofs.Loop.Laws as T′
-use Rattle.loops.specs.Counts.{noLoop, factor, countIn, shown}
+use Rattle.loops.specs.Counts.{noLoop, stepped, countIn}
 use Rattle.loops.proofs.Hand.{Ends, leaves, closes, calls-fn, reads-elem, shuts-elem}
 use Rattle.loops.proofs.Shown.{count-none, count-more}
 use Rattle.loops.proofs.step as step
@@ -62,33 +63,36 @@ use Rattle.loops.proofs.count.Code as code
 use Rattle.loops.proofs.count.Code.Mir as body
 
 -- the place of a record does not wrap, and neither does the next index
-fits-place : (j n : ℕ) → j < n → n * 8 < 2 ^ 63 → j * 8 < 2 ^ 64
+fits-place : (j n : ℕ) → j < n → n * 12 < 2 ^ 63 → j * 12 < 2 ^ 64
 fits-place j n l r = omega arith
 
 fits-next : (j n : ℕ) → j < n → n < 2 ^ 64 → j + 1 < 2 ^ 64
 fits-next j n l r = omega arith
 
--- what the loop knows: the product is the count over the first j loops
+-- what the loop knows: it has the count over the first j loops
 record At (ys : List Loop) (node : ℕ) : Type 0 where
   pub j : ℕ
-  pub product : ℕ
+  pub visits : ℕ
   pub within : j ≤ length ys
-  pub small : product < 2 ^ 32
-  pub same : product ≡ shown (countIn ys j node)
+  pub small : visits < 2 ^ 32
+  pub same : visits ≡ countIn ys j node
 
 module _ {ys : List Loop} {node : ℕ} (s : At ys node) where
-  next : (r : ℕ) → s .j < length ys → r < 2 ^ 32 → r ≡ shown (s .product * factor (getD ys (s .j) noLoop) node) → At ys node
+  next :
+      (r : ℕ) → s .j < length ys → r < 2 ^ 32 → r ≡ cond (inside (getD ys (s .j) noLoop) node) (stepped (getD ys (s .j) noLoop) (s .visits)) (s .visits)
+      → At ys node
   next r l g e =
       record {
         j = s .j + 1;
-        product = r;
+        visits = r;
         within = omega arith;
         small = g;
-        same = e ∙ ap (λ (p : ℕ). shown (p * factor (getD ys (s .j) noLoop) node)) (s .same) ∙ sym (count-more ys (s .j) node);
+        same =
+            e ∙ ap (λ (k : ℕ). cond (inside (getD ys (s .j) noLoop) node) (stepped (getD ys (s .j) noLoop) k) k) (s .same) ∙ sym (count-more ys (s .j) node);
       }
 
-  ended : length ys ≤ s .j → s .product ≡ shown (countIn ys (length ys) node)
-  ended l = s .same ∙ ap (λ (n : ℕ). shown (countIn ys n node)) (let e : s .j ≡ length ys = omega (arith, s .within) in e)
+  ended : length ys ≤ s .j → s .visits ≡ countIn ys (length ys) node
+  ended l = s .same ∙ ap (λ (n : ℕ). countIn ys n node) (let e : s .j ≡ length ys = omega (arith, s .within) in e)
 
 module _ {M : Type 1} (𝓤 : URA M) (H : Heap 𝓤) (A : Atoms 𝓤) (W : Given 𝓤 H A) (mem : Memory → SProp 𝓤) (run : Routine → Fun 𝓤) (κ : Lft) (q : Share)
     (b o : ℕ) (γ : GName) (ys : List Loop) (node : ℕ)
@@ -109,7 +113,7 @@ module _ {M : Type 1} (𝓤 : URA M) (H : Heap 𝓤) (A : Atoms 𝓤) (W : Given
   abbrev Step : Contract 𝓤
   Step = tripleOf 𝓤 H A step.signature (step.spec 𝓤 H A mem run)
 
-  -- the call of `step`, at the product p and the record l
+  -- the call of `step`, at the visits p and the record l
   abbrev to-step : ℕ → Loop → Step .Ghost
   to-step p l = ((tt, tt, tt, (p, (l, (node, tt))), (vint w32 p ∷ [], (T′.lowered l ∷ [], (vint w16 node ∷ [], tt)))), tt)
 
@@ -141,7 +145,7 @@ module _ {M : Type 1} (𝓤 : URA M) (H : Heap 𝓤) (A : Atoms 𝓤) (W : Given
     abbrev Inv : At ys node → List (Item 𝓤)
     Inv s = ‵ (flft κ q) ∷ ‵ shr ∷ ‵ (froom T′.mir l₈ 0) ∷ ‵ (fdies T′.mir l₈) ∷ ‵ (froom tyPtr l₇ 0) ∷ ‵ (fdies tyPtr l₇) ∷ ‵ (froom tyBool l₆ 0)
         ∷ ‵ (fdies tyBool l₆) ∷ ‵ (froom (tyInt w64) l₅ 0) ∷ ‵ (fdies (tyInt w64) l₅)
-        ∷ ‵ (fat fullShare (tyInt w64) l₄ 0 (vint w64 (s .j))) ∷ ‵ (fdies (tyInt w64) l₄) ∷ ‵ (fat fullShare (tyInt w32) l₃ 0 (vint w32 (s .product)))
+        ∷ ‵ (fat fullShare (tyInt w64) l₄ 0 (vint w64 (s .j))) ∷ ‵ (fdies (tyInt w64) l₄) ∷ ‵ (fat fullShare (tyInt w32) l₃ 0 (vint w32 (s .visits)))
         ∷ ‵ (fdies (tyInt w32) l₃) ∷ ‵ (fat fullShare (tyInt w16) l₂ 0 (vint w16 node)) ∷ ‵ (fdies (tyInt w16) l₂)
         ∷ ‵ (fat fullShare slice l₁ 0 (sliceVal (b, o) (length ys))) ∷ ‵ (fdies slice l₁) ∷ ‵ (froom (tyInt w32) l₀ 0) ∷ ‵ (fdies (tyInt w32) l₀) ∷ []
 
@@ -161,22 +165,22 @@ module _ {M : Type 1} (𝓤 : URA M) (H : Heap 𝓤) (A : Atoms 𝓤) (W : Given
         (init ! 6 refl (tt, tt)) $
         dite (decLt (s .j) (length ys))
         (λ l.
-        -- _5 = j * 8; _7 = the place of loops[j]
+        -- _5 = j * 12; _7 = the place of loops[j]
         rewrite ! 6 (λ (z : Bool). ‵ (fat fullShare tyBool l₆ 0 (vbool z))) (lt-ltb _ _ l) refl $ stays ! (load ! (from ! (stop !)) (look ! 6 refl)) $
         assigns ! (bin ! (load ! (from ! (stop !)) (look ! 10 refl)) (lit ! tt) (record { fits = fits-place (s .j) (length ys) l (gn .1) }))
         (from ! (stop !)) (store ! 8 refl (tt, record { fits = fits-place (s .j) (length ys) l (gn .1) })) $
         assigns ! (bin ! (load ! (from ! (fld ! refl (stop !))) (look-in ! 16 (sub ! 0 refl (whole !))))
         (load ! (from ! (stop !)) (look ! 8 refl)) tt) (from ! (stop !)) (init ! 4 refl (tt, tt)) $
-        rewrite ! 4 (λ (p : ℕ). ‵ (fat fullShare tyPtr l₇ 0 (vptr b p))) (sym (place-is 8 o (s .j))) refl $
+        rewrite ! 4 (λ (p : ℕ). ‵ (fat fullShare tyPtr l₇ 0 (vptr b p))) (sym (place-is 12 o (s .j))) refl $
         move ! (1 ∷ 0 ∷ []) $ reads-elem T.the-type T′.the-laws ! tt T′.the-copy ys (s .j) noLoop b o l (λ q′ g.
         -- [loops[j]; what it owns; the others; what shuts; the fractured borrow; _8; …; _7; …; _6; …]: _8 = loops[j]
         assigns ! (of-opd ! (load ! (from ! (hop ! (look ! 7 refl) (stop !))) (look-raw ! 0 refl))) (from ! (stop !))
         (init ! 5 refl (LL.lawful T.the-type T′.the-laws 𝓤 H A W .typed (elem s) (T′.lowered (elem s) ∷ []) g .0)) $
         shuts-elem T.the-type T′.the-laws ! tt q′ ys (s .j) noLoop b o l $
-        -- as in `Inv`, with _5 to _8 written: product = step(product, _8, node)
-        use0 W (raw (Step .pre (to-step (s .product) (elem s)))) (goes-step (s .product) (elem s) (s .small) g) $
-        calls-fn ! (fmOf 𝓤 H (W .laws) 𝓣) step.ended (step.clauses 𝓤 H A mem run) known (to-step (s .product) (elem s))
-        (λ r. r ≡ shown (s .product * factor (elem s) node)) (λ r ws. id⊢ 𝓤 _)
+        -- as in `Inv`, with _5 to _8 written: visits = step(visits, _8, node)
+        use0 W (raw (Step .pre (to-step (s .visits) (elem s)))) (goes-step (s .visits) (elem s) (s .small) g) $
+        calls-fn ! (fmOf 𝓤 H (W .laws) 𝓣) step.ended (step.clauses 𝓤 H A mem run) known (to-step (s .visits) (elem s))
+        (λ r. r ≡ cond (inside (elem s) node) (stepped (elem s) (s .visits)) (s .visits)) (λ r ws. id⊢ 𝓤 _)
         (and-then ! (load ! (from ! (stop !)) (look ! 13 refl))
         (and-then ! (load ! (from ! (stop !)) (look ! 3 refl)) (and-then ! (load ! (from ! (stop !)) (look ! 15 refl)) (no-more !)))) (λ v r e.
         facts ! u32 (Is u32) (shows 𝓤 H A u32) r (v ∷ []) (λ is. drops ! $
@@ -188,7 +192,7 @@ module _ {M : Type 1} (𝓤 : URA M) (H : Heap 𝓤) (A : Atoms 𝓤) (W : Given
         forget ! 2 refl $ forget ! 4 refl $ forget ! 6 refl $ forget ! 8 refl $
         again ! Nearer Inv s (next s r l (is .1) e) (add-one-dec (length ys) (s .j) l)))))
         (λ n.
-        -- the loop is left, and the product returned
+        -- the loop is left, and the visits returned
         let h : length ys ≤ s .j = omega arith in
         rewrite ! 6 (λ (z : Bool). ‵ (fat fullShare tyBool l₆ 0 (vbool z))) (le-ltb _ _ h) refl $
         leaves-loop ! (load ! (from ! (stop !)) (look ! 6 refl)) $ exec ! (𝓣 .C) (𝓣 .Λ) En body.t-4 (atRet En Post) $
@@ -197,8 +201,8 @@ module _ {M : Type 1} (𝓤 : URA M) (H : Heap 𝓤) (A : Atoms 𝓤) (W : Given
         forget ! 18 refl $
         move ! (18 ∷ 19 ∷ 16 ∷ 17 ∷ 14 ∷ 15 ∷ 12 ∷ 13 ∷ 10 ∷ 11 ∷ 8 ∷ 9 ∷ 6 ∷ 7 ∷ 4 ∷ 5 ∷ 2 ∷ 3 ∷ []) $ free1 ! $ free1 ! $ free1 ! $ free1 ! $
         free1 ! $ free1 ! $ free1 ! $ free1 ! $ free1 ! $ free0 ! $
-        owned ! u32 (Is u32) (uint-makes 𝓤 H A W w32) (s .product) _ (refl, s .small) $ nothing ! $ keep ! (2 ∷ 0 ∷ 1 ∷ []) $ join ! $
-        by ! (leaves 𝓤 H A count.ended (count.clauses 𝓤 H A mem run) W (((κ, tt), (q, tt), tt, x, at), tt) (vint w32 (s .product)) (s .product)
+        owned ! u32 (Is u32) (uint-makes 𝓤 H A W w32) (s .visits) _ (refl, s .small) $ nothing ! $ keep ! (2 ∷ 0 ∷ 1 ∷ []) $ join ! $
+        by ! (leaves 𝓤 H A count.ended (count.clauses 𝓤 H A mem run) W (((κ, tt), (q, tt), tt, x, at), tt) (vint w32 (s .visits)) (s .visits)
         (tt, (tt, tt)) (factI 𝓤 _ (emp 𝓤) (ended s h))))
 
   walk : (𝓣 : Tables 𝓤 H) → Triple 𝓤 (𝓣 .C #loops·step) Step
@@ -210,7 +214,7 @@ module _ {M : Type 1} (𝓤 : URA M) (H : Heap 𝓤) (A : Atoms 𝓤) (W : Given
       alloc1 ! (λ l₀. alloc1 ! (λ l₁. alloc1 ! (λ l₂. alloc1 ! (λ l₃. alloc1 ! (λ l₄. alloc1 ! (λ l₅. alloc1 ! (λ l₆. alloc1 ! (λ l₇. alloc1 ! (λ l₈.
       alloc0 ! $ params1 ! $
       pass1 ! (init ! 14 refl (tt, (tt, (record { fits = gn .0 }, tt)))) $ pass1 ! (init ! 12 refl (tt, record { fits = gd })) $ pass0 ! $
-      -- product = 1; j = 0
+      -- visits = 1; j = 0
       assigns ! (of-opd ! (lit ! tt)) (from ! (stop !)) (init ! 10 refl (tt, record { fits = lit< tt })) $
       assigns ! (of-opd ! (lit ! tt)) (from ! (stop !)) (init ! 8 refl (tt, record { fits = lit< tt })) $
       -- of what the slice owns the fractured borrow is kept
@@ -218,7 +222,7 @@ module _ {M : Type 1} (𝓤 : URA M) (H : Heap 𝓤) (A : Atoms 𝓤) (W : Given
       -- [res; the fractured borrow; the slice's fact; what node owns; the token; true; the locals]
       keep ! (4 ∷ 1 ∷ 6 ∷ 7 ∷ 8 ∷ 9 ∷ 10 ∷ 11 ∷ 12 ∷ 13 ∷ 14 ∷ 15 ∷ 16 ∷ 17 ∷ 18 ∷ 19 ∷ 20 ∷ 21 ∷ 22 ∷ 23 ∷ []) $
       first ! $ blocks ! $ loops ! 𝓣 Nearer Nearer-wf (Inv 𝓣 known l₀ l₁ l₂ l₃ l₄ l₅ l₆ l₇ l₈) (turns 𝓣 known l₀ l₁ l₂ l₃ l₄ l₅ l₆ l₇ l₈)
-      (record { j = 0; product = 1; within = omega arith; small = lit< tt; same = sym (count-none ys node) }))))))))))
+      (record { j = 0; visits = 1; within = omega arith; small = lit< tt; same = sym (count-none ys node) }))))))))))
 
 pub count-spec : {M : Type 1} → stated.statement M
 unfolding code.routine tablesOf

@@ -41,7 +41,7 @@ use denote.Triple.Walked.{needs}
 use Rattle.paper.specs.declared.Loop.{Loop}
 use Rattle.paper.proofs.Loop as T
 use Rattle.paper.proofs.Loop.Laws as T′
-use Rattle.loops.specs.Counts.{countIn, shown}
+use Rattle.loops.specs.Counts.{countIn}
 use Rattle.loops.proofs.Hand.{Ends, leaves, closes, calls-fn}
 use Rattle.loops.proofs.Lends.{lends-front, comes-home}
 use Rattle.loops.proofs.Shown.{count-front}
@@ -123,7 +123,7 @@ module _ {M : Type 1} (𝓤 : URA M) (H : Heap 𝓤) (A : Atoms 𝓤) (W : Given
         -- _0 = count(_6, node)
         move ! (3 ∷ 0 ∷ []) $ use2 W (raw (Count 𝓤 H A mem run .pre (to-count α l₄ γ))) (goes α l₄ γ) $
         calls-fn ! fm count.ended (count.clauses 𝓤 H A mem run) known (to-count α l₄ γ)
-        (λ r. r ≡ shown (countIn (take n xs) (length (take n xs)) node)) (λ r ws. id⊢ 𝓤 _)
+        (λ r. r ≡ countIn (take n xs) (length (take n xs)) node) (λ r ws. id⊢ 𝓤 _)
         (and-then ! (load ! (from ! (stop !)) (look ! 3 refl)) (and-then ! (load ! (from ! (stop !)) (look ! 8 refl)) (no-more !)))
         (λ v r e. peeks ! u32 (Is u32) (shows 𝓤 H A u32) r (v ∷ []) (λ is′.
         -- [the result; the token; the way back; the other elements; _6; …]: the loan ends
@@ -136,7 +136,7 @@ module _ {M : Type 1} (𝓤 : URA M) (H : Heap 𝓤) (A : Atoms 𝓤) (W : Given
         free1 ! $ free0 ! $
         keep ! (0 ∷ 1 ∷ []) $
         by ! (leaves 𝓤 H A count-in.ended (count-in.clauses 𝓤 H A mem run) W ((tt, tt, tt, x, at), tt) v r (tt, (tt, (tt, tt)))
-        (factI 𝓤 _ (emp 𝓤) (e ∙ ap shown (count-front xs n node (rw len h))))))))))))))))
+        (factI 𝓤 _ (emp 𝓤) (e ∙ count-front xs n node (rw len h)))))))))))))))
 
 pub count-in-spec : {M : Type 1} → stated.statement M
 unfolding code.routine tablesOf

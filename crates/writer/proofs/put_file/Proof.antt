@@ -16,11 +16,11 @@ abbrev to-nodes : tie.After-put-words2 → tie.After-put-words
 to-nodes edges = edges .before .before .before .before
 
 abbrev to-edges : tie.After-put-loops → tie.After-put-words2
-to-edges loops = loops .before .before .before .before .before
+to-edges loops = loops .before .before .before .before
 
 put-loops-requires : tie.Need-put-loops-requires
 put-loops-requires c κs =
-    let edges = c .before .before .before .before in
+    let edges = c .before .before .before in
     let nodes = to-nodes edges in
     let p = start nodes .pre in (
       omega (
@@ -33,7 +33,7 @@ put-loops-requires c κs =
         p .0 .edges,
         p .1 .1,
       ),
-      (omega (arith, p .0 .loops), narrow _ _ _ _ (p .1 .0)),
+      narrow _ _ _ _ (p .1 .0),
     )
 
 put-facts-requires : tie.Need-put-facts-requires
@@ -97,7 +97,7 @@ pub put-file-spec : {M : Type 1} → statement M
 put-file-spec =
     tie.close
     (tie.spec
-    (λ c κs. search needs) (λ c κs. search needs) (λ c. search needs)
+    (λ c κs. search needs) (λ c κs. search needs)
     put-loops-requires
     (λ c. search needs)
     put-facts-requires

@@ -1,8 +1,10 @@
 -- `writer::write_fitting`: the file's length is known before a byte is written; g is where its sections' end was read.
+use Prim.Native.Nat.{_≤_}
 use native.Mathlib.Omega.{arith}
 use borrow.Author.Needs.{needs}
 use Rattle.lists.specs.Listed.{content}
 use Rattle.writer.proofs.Written.{size-of, too-short, fitted}
+use Rattle.writer.proofs.LoopBytes.{facts-narrow}
 use Rattle.writer.proofs.write_fitting.Statement.{statement}
 use Rattle.writer.proofs.write_fitting.Tie as tie
 
@@ -10,6 +12,16 @@ abbrev start : tie.After-facts-at → tie.Start
 start g =
     let lists = g .before .before .before in
     lists .before .before .before .before
+
+-- the facts begin early, so the sum is small
+early : (g : tie.After-facts-at) → g .facts-at .result ≤ 1179630
+early g =
+    let k = start g .pre .0 in
+    omega (
+      arith,
+      g .facts-at .ensures,
+      facts-narrow (start g .args .trailer) (omega (arith, k .nodes-high)) (omega (arith, k .edges-high)) (omega (arith, k .loops-high)),
+    )
 
 returns : tie.Need-returns
 returns c =
@@ -35,7 +47,10 @@ pub write-fitting-spec : {M : Type 1} → statement M
 write-fitting-spec =
     tie.close
     (tie.spec
-    (λ c κs. search needs) (λ c. search needs) (λ c. search needs) (λ c. search needs) (λ c. search needs) (λ c. search needs) (λ c. search needs)
+    (λ c κs. search needs) (λ c. search needs) (λ c. search needs)
+    (λ c. search (needs, early (c .before)))
+    (λ c. search needs)
+    (λ c. search (needs, early (c .before))) (λ c. search (needs, early (c .before)))
     (λ c κs. search needs)
     returns
     put-file-requires

@@ -1,11 +1,11 @@
 //! Contents with faults that are each aimed at one rule of the writer.
 
 use super::{facts, graph, Spot};
-use crate::case::{Content, Draft, LARGEST};
+use crate::case::{loop_numbers, Content, Draft, LARGEST};
 use crate::random::Random;
 
 /// Every rule that the writer can find broken, in its order: 20 is about the lent bytes.
-pub const WRITTEN: [u8; 9] = [3, 4, 6, 7, 12, 13, 15, 16, 20];
+pub const WRITTEN: [u8; 10] = [2, 3, 4, 6, 7, 12, 13, 15, 16, 20];
 
 /// The content with faults aimed at the rules, later ones first, as in a file.
 pub fn spoil(random: &mut Random, draft: &Draft, rules: &[u8]) -> Content {
@@ -15,7 +15,7 @@ pub fn spoil(random: &mut Random, draft: &Draft, rules: &[u8]) -> Content {
     for &rule in &rules {
         let spot = random.pick(&Spot::ALL);
         match rule {
-            6 | 7 => graph::damage(random, &mut draft.lists, rule, spot),
+            6 | 7 => graph::damage(random, &mut draft, rule, spot),
             12 | 13 | 16 => facts::damage(random, &mut draft, rule, spot),
             _ => {}
         }
@@ -24,6 +24,7 @@ pub fn spoil(random: &mut Random, draft: &Draft, rules: &[u8]) -> Content {
     for &rule in &rules {
         let spot = random.pick(&Spot::ALL);
         match rule {
+            2 => content.version = random.pick(&[0, 3, 4, 255]),
             3 => spoil_machine(random, &mut content),
             4 => spoil_lists(random, &mut content),
             7 if random.chance(30) => widen_loop(random, &mut content, spot),
@@ -44,18 +45,20 @@ fn spoil_machine(random: &mut Random, content: &mut Content) {
     }
 }
 
-/// Rule 4: a number out of range, a list that is no whole number of records, or rows that no head names.
+/// Rule 4: a number out of range, a list that is no whole number of records, or rows that no head names. Loops of the other
+/// version are whole records only by chance.
 fn spoil_lists(random: &mut Random, content: &mut Content) {
     let past = LARGEST.map(|largest| usize::from(largest) + 1);
-    match random.below(9) {
+    match random.below(10) {
         0 => content.nodes.clear(),
         1 => content.nodes.resize(past[0], 0),
         2 => content.edges.resize(2 * past[1], 0),
-        3 => content.loops.resize(3 * past[2], 1),
+        3 => content.loops.resize(loop_numbers(content.version) * past[2], 1),
         4 => content.heads.resize(4 * past[3], 0),
         5 => lengthen(random, &mut content.edges),
         6 => lengthen(random, &mut content.loops),
         7 => lengthen(random, &mut content.heads),
+        8 => content.version ^= 3,
         _ if content.heads.is_empty() || random.chance(50) => lengthen(random, &mut content.rows),
         _ => {
             let i = random.below(content.heads.len() / 4);
@@ -78,8 +81,9 @@ fn lengthen<T: Copy + From<u8>>(random: &mut Random, list: &mut Vec<T>) {
 /// Rule 7: a first or last node that has more than 16 bits, and its low ones may be right.
 fn widen_loop(random: &mut Random, content: &mut Content, spot: Spot) {
     if !content.loops.is_empty() {
-        let i = spot.index(random, content.loops.len() / 3);
-        let field = 3 * i + random.below(2);
+        let a_loop = loop_numbers(content.version);
+        let i = spot.index(random, content.loops.len() / a_loop);
+        let field = a_loop * i + random.below(2);
         content.loops[field] = random.pick(&[content.loops[field] + 65_536, 65_536, u32::MAX]);
     }
 }

@@ -1,19 +1,23 @@
 //! Faults of edges, loops and counts: rules 6 to 10, and 26.
 
 use super::Spot;
-use crate::case::{Graph, Lists, LoopRecord};
+use crate::case::{loops_have_w, Draft, Graph, Lists, LoopRecord, NO_LIMIT};
 use crate::generate::graphs::enliven;
 use crate::random::Random;
 
 /// The lists keep rules 6 and 7, unless the fault is to be one of these.
-pub fn damage(random: &mut Random, lists: &mut Lists, rule: u8, spot: Spot) {
+pub fn damage(random: &mut Random, draft: &mut Draft, rule: u8, spot: Spot) {
+    let with_w = loops_have_w(draft.version);
+    let lists = &mut draft.lists;
     match rule {
         6 => spoil_edge(random, lists, spot),
+        // "7 also for W = 0"
+        7 if with_w && random.chance(25) => spoil_visits(random, lists, spot),
         7 => spoil_loop(random, lists, spot),
         8 => add_edge(random, lists, spot, |graph, u, v| graph.enters_beside_header(u, v)),
         9 => add_edge(random, lists, spot, |graph, u, v| graph.returns_to_no_header(u, v)),
         26 => cut_off(random, lists, spot),
-        _ => swell(random, lists, spot),
+        _ => swell(random, lists, spot, with_w),
     }
 }
 
@@ -32,11 +36,16 @@ fn spoil_edge(random: &mut Random, lists: &mut Lists, spot: Spot) {
     }
 }
 
-/// Rule 7, one of its five faults.
+fn spoil_visits(random: &mut Random, lists: &mut Lists, spot: Spot) {
+    let i = spot.index(random, lists.loops.len());
+    lists.loops.iter_mut().skip(i).take(1).for_each(|record| record.visits = 0);
+}
+
+/// Rule 7, one of its five faults beside W.
 fn spoil_loop(random: &mut Random, lists: &mut Lists, spot: Spot) {
     let n = lists.nodes.len() as u16;
     if lists.loops.is_empty() {
-        lists.loops.push(LoopRecord { first: 0, last: n - 1, bound: 1 });
+        lists.loops.push(LoopRecord::new(0, n - 1, 1));
     }
     let i = spot.index(random, lists.loops.len());
     let first = lists.loops[i].first;
@@ -59,7 +68,7 @@ fn cross(random: &mut Random, lists: &mut Lists, i: usize) {
         None if first < last && last < n - 1 => {
             let begin = random.within((first + 1).into()..=last.into()) as u16;
             let at = lists.loops.iter().filter(|other| other.first < begin).count();
-            lists.loops.insert(at, LoopRecord { first: begin, last: last + 1, bound: 2 });
+            lists.loops.insert(at, LoopRecord::new(begin, last + 1, 2));
         }
         None => lists.loops[i].bound = 0,
     }
@@ -111,20 +120,29 @@ fn cut_off(random: &mut Random, lists: &mut Lists, spot: Spot) {
 }
 
 /// Rule 10: two loops whose bounds together are too large, the inner one from the chosen node on. A node is in two
-/// loops only if it is not the header of the outer one, so the first place is node 1.
-fn swell(random: &mut Random, lists: &mut Lists, spot: Spot) {
+/// loops only if it is not the header of the outer one, so the first place is node 1. A W may bring the count back, by as
+/// little as it takes or to a few.
+fn swell(random: &mut Random, lists: &mut Lists, spot: Spot, with_w: bool) {
     let n = lists.nodes.len();
     if n < 2 || random.chance(20) {
         lists.loops.iter_mut().for_each(|record| record.bound = 1_000_000);
         return;
     }
+    let visits = |random: &mut Random| {
+        let brought_back = with_w && random.chance(15);
+        if brought_back {
+            random.pick(&[NO_LIMIT - 1, NO_LIMIT - 1, 7])
+        } else {
+            NO_LIMIT
+        }
+    };
     let first = 1 + spot.index(random, n - 1);
     let last = random.within(first..=n - 1);
     // 65,535 times 65,537 is the largest count, 4,294,967,295.
     let (outer, inner) = random.pick(&[(65_536, 65_536), (4_295, 1_000_000), (1_000_000, 1_000_000), (65_535, 65_537)]);
     lists.loops = vec![
-        LoopRecord { first: 0, last: n as u16 - 1, bound: outer },
-        LoopRecord { first: first as u16, last: last as u16, bound: inner },
+        LoopRecord { visits: visits(random), ..LoopRecord::new(0, n as u16 - 1, outer) },
+        LoopRecord { visits: visits(random), ..LoopRecord::new(first as u16, last as u16, inner) },
     ];
     let graph = Graph::new(lists);
     let ends = |edge: (u16, u16)| (usize::from(edge.0), usize::from(edge.1));

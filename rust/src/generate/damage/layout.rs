@@ -63,7 +63,7 @@ fn spoil_number(random: &mut Random, file: &mut [u8]) {
 }
 
 fn spoil_offsets(random: &mut Random, draft: &Draft, file: &mut Vec<u8>) {
-    match random.below(3) {
+    match random.below(4) {
         0 => {
             let which = random.below(4);
             let shift = random.pick(&[1, 2, 4, 16, 1 << 16, 1 << 24, u32::MAX, u32::MAX - 1]);
@@ -77,6 +77,8 @@ fn spoil_offsets(random: &mut Random, draft: &Draft, file: &mut Vec<u8>) {
             let keep = random.below(draft.facts_start());
             file.drain(keep..file.len() - TRAILER);
         }
+        // The other version: its loops have another size, so where there are any the facts start elsewhere.
+        2 => patch(file, VERSION, |bytes| bytes[0] ^= 3),
         _ => {
             let which = random.below(3);
             patch(file, NUMBERS + 2 * which, |bytes| bytes[0] = bytes[0].wrapping_add(1));

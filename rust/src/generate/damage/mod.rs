@@ -49,7 +49,7 @@ pub fn damage(random: &mut Random, draft: &Draft, rules: &[u8]) -> (Vec<u8>, usi
     for &rule in &rules {
         let spot = random.pick(&Spot::ALL);
         match rule {
-            6..=10 | 26 => graph::damage(random, &mut draft.lists, rule, spot),
+            6..=10 | 26 => graph::damage(random, &mut draft, rule, spot),
             12..=14 | 16..=18 | 24 | 25 => facts::damage(random, &mut draft, rule, spot),
             _ => {}
         }

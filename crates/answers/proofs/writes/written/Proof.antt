@@ -10,7 +10,7 @@ abbrev start : tie.After-write → tie.Start
 start c =
     let handed = c .before .before .before .before .before in
     let known = handed .before .before .before .before .before in
-    known .before
+    known .before .before
 
 returns : tie.Need-returns
 returns c =
@@ -23,6 +23,6 @@ pub written-spec : {M : Type 1} → statement M
 written-spec =
     tie.close
     (tie.spec
-    (λ c. search needs) (λ c. search needs) (λ c. search needs) (λ c. search needs) (λ c. search needs) (λ c. search needs)
+    (λ c. search needs) (λ c. search needs) (λ c. search needs) (λ c. search needs) (λ c. search needs) (λ c. search needs) (λ c. search needs)
     (λ c κs. search needs) (λ c. search needs)
     returns)

@@ -1,10 +1,13 @@
 -- Each number is read or computed from what was read of the fact, so the cost is the fact's.
+use Prim.Native.Nat.{_≤_}
 use native.Mathlib.Omega.{arith}
 use mathlib.Core.Path.{_≡_, ap}
 use borrow.Author.Needs.{needs}
-use Rattle.paper.specs.Files.{u16At, caseOf}
+use Rattle.paper.specs.Ceilings.{mostCount}
+use Rattle.paper.specs.Files.{u16At, factAt, caseOf}
 use Rattle.charge.specs.Tables.{headOf}
 use Rattle.charge.specs.declared.heads.Head.{Head}
+use Rattle.charge.proofs.Entries.{entries-low}
 use Rattle.charge.proofs.FactCosts.{scope-low, cost-is, lowered-is}
 use Rattle.charge.proofs.facts.charge_fact.Statement.{statement}
 use Rattle.charge.proofs.facts.charge_fact.Tie as tie
@@ -20,26 +23,33 @@ scope c = ap (λ (h : Head). h .scope) (c .head-at .ensures)
 entries-of-requires : tie.Need-entries-of-requires
 entries-of-requires c κs =
     let p = start c .pre in
-    (p .0, (p .1 .0, (scope c, scope-low _ _ _ _ (scope c) (p .1 .1 .1 .0))))
+    (p .0, (p .1 .0, (c .head-at .ensures, scope-low _ _ _ _ (scope c) (p .1 .1 .1 .0))))
 
--- where its bound is computed
-abbrev read : tie.After-struct-known2 → tie.After-entries-of
-read c = c .before .before .before .before
+-- where N is known
+abbrev read : tie.After-cover-nodes → tie.After-entries-of
+read c = c .before .before
 
 bound-of-requires : tie.Need-bound-of-requires
 unfolding caseOf headOf
 bound-of-requires c κs =
-    let h = read c .before in
+    let x = c .before .before in
+    let n = x .before in
+    let h = read n .before in
     let p = start h .pre in
+    let s = p .1 .1 .1 .0 in
     let el = ap (λ (k : Head). k .limit) (h .head-at .ensures) in
-    (omega (arith, el, p .1 .1 .1 .0 .high), (p .0 .laid .ways-high, (read c .entries-of .ensures .1, c .before .before .cover-nodes .ensures .1 .0)))
+    let t = factAt (start h .args .file .now) (start h .args .p) in
+    let low : x .lesser .result ≤ mostCount = omega (arith, x .lesser .ensures, read n .entries-of .ensures, entries-low _ (p .0 .sound .graph) t (s .scope)) in
+    (omega (arith, el, s .high), (p .0 .laid .ways-high, (low, n .cover-nodes .ensures .1 .0)))
 
 returns : tie.Need-returns
 returns c =
-    let e = read (c .before) in
+    let x = c .before .before .before in
+    let n = x .before in
+    let e = read n in
     let eh = e .before .head-at .ensures in
-    let n = c .before .before .before .cover-nodes .ensures in
-    (cost-is _ _ _ _ eh _ _ _ (e .entries-of .ensures .0) (n .0) (c .bound-of .ensures), lowered-is _ _ _ _ eh _ _ (n .1 .1))
+    let m = n .cover-nodes .ensures in
+    (cost-is _ _ _ _ eh _ _ _ _ (e .entries-of .ensures) (m .0) (x .lesser .ensures) (c .bound-of .ensures), lowered-is _ _ _ _ eh _ _ (m .1 .1))
 
 pub charge-fact-spec : {M : Type 1} → statement M
 charge-fact-spec =
@@ -48,6 +58,6 @@ charge-fact-spec =
     (λ c κs. let p = c .before .before .pre in (p .0, (p .1 .1 .1 .0, p .1 .1 .1 .1 .0)))
     entries-of-requires
     (λ c κs. let p = start (c .before .before) .pre in (p .0, (p .1 .1 .0, p .1 .1 .1 .1 .1)))
-    (λ c. search needs) (λ c. search needs)
+    (λ c κs. search needs) (λ c. search needs) (λ c. search needs)
     bound-of-requires
     returns)

@@ -33,7 +33,8 @@ is-mark : (c : tie.After-loop-mark Inv-loop μ-loop) →
     c .loop-mark .result ≡ marks (caseOf (a .file .now) (a .trailer)) (a .rule) (i .loop .j)
 is-mark c =
     let i = c .before .before .before .before .before in
-    handed-mark _ _ _ _ _ _ _ (i .before .loops-of .ensures) (c .before .before .before .if1 .taken)
+    let f = i .before .before .before .before in
+    handed-mark _ _ _ _ _ _ _ (i .before .loops-of .ensures) (f .before .before .before .before .before .pre .1 .0) (c .before .before .before .if1 .taken)
     (λ p. ⊎-elim (λ w. w .2 ∙ w .1 .ensures) (λ w. absurd (w .0 .left p)) (c .before .before .if2 .came))
     (c .loop-mark .ensures)
 

@@ -10,4 +10,4 @@ unfolding wrongLoop some
 returns c = cc
 
 pub wrong-loop-spec : {M : Type 1} → statement M
-wrong-loop-spec = tie.close (tie.spec (λ c κs. search needs) returns)
+wrong-loop-spec = tie.close (tie.spec (λ c. search needs) (λ c κs. search needs) returns)

@@ -1,37 +1,55 @@
--- `writer::sections::put_loop`: first and last, which rule 7 keeps below 65,536, then B.
+-- `writer::sections::put_loop`: version 1 ends with B, version 2 with W.
 use native.Mathlib.Omega.{arith}
 use borrow.Author.Needs.{needs}
-use Rattle.paper.specs.Writing.{loopBytes, loopIn}
-use Rattle.puts.proofs.Putting.{put-then}
+use Rattle.paper.proofs.LoopSizes.{size-low, size-without, size-with}
+use Rattle.puts.proofs.Putting.{put-length, put-then}
+use Rattle.writer.proofs.Words.{put-as}
+use Rattle.writer.proofs.LoopBytes.{loop-without, loop-with}
 use Rattle.writer.proofs.sections.put_loop.Statement.{statement}
 use Rattle.writer.proofs.sections.put_loop.Tie as tie
 
-cast-put-word : tie.Need-cast-put-word
-cast-put-word c =
-    let s = c .before .before .before .before in
-    omega (arith, s .pre .1 .1 .first (s .args .j) (omega (arith, s .pre .1 .0)))
+abbrev start : tie.After-put-front → tie.Start
+start f = f .before .before .before .before
 
-cast-put-word-2 : tie.Need-cast-put-word-2
-cast-put-word-2 c =
-    let first = c .before .before .before .before in
-    let s = first .before .before .before .before .before in
-    omega (arith, s .pre .1 .1 .last (s .args .j) (omega (arith, s .pre .1 .0)))
+put-front-requires : tie.Need-put-front-requires
+put-front-requires c κs =
+    let s = c .before .before .before in
+    (omega (arith, s .pre .0, size-low (s .args .trailer .version)), s .pre .1)
 
 returns : tie.Need-returns
-unfolding loopBytes loopIn
 returns c =
-    let bound = c .before .before in
-    let last = bound .before .before .before .before .before in
-    let first = last .before .before .before .before .before in
-    (put-then (first .put-word .ensures .0) (put-then (last .put-word2 .ensures .0) (bound .put-long .ensures .0)), search needs)
+    let f = c .before .before .before .before in
+    let a = start f .args in (
+      put-as (loop-without (a .trailer) (a .loops .now) (a .j) (c .if1 .taken)) (f .put-front .ensures .0),
+      omega (arith, f .put-front .ensures .1, size-without (a .trailer .version) (c .if1 .taken)),
+    )
+
+put-long-requires : tie.Need-put-long-requires
+put-long-requires c κs =
+    let e = c .before .before in
+    let f = e .before .before .before .before in
+    let s = start f in
+    omega (arith, s .pre .0, f .put-front .ensures .1, put-length (f .put-front .ensures .0), size-with (s .args .trailer .version) (e .if1 .left))
+
+returns-2 : tie.Need-returns-2
+returns-2 c =
+    let w = c .before .before in
+    let v = w .before in
+    let e = v .before .before in
+    let f = e .before .before .before .before in
+    let a = start f .args in (
+      put-as (loop-with (a .trailer) (a .loops .now) (a .j) (e .if1 .left) _ (v .visits-of .ensures)) (put-then (f .put-front .ensures .0) (w .put-long .ensures .0)),
+      omega (arith, f .put-front .ensures .1, w .put-long .ensures .1, size-with (a .trailer .version) (e .if1 .left)),
+    )
 
 pub put-loop-spec : {M : Type 1} → statement M
 put-loop-spec =
     tie.close
     (tie.spec
-    (λ c. search needs) (λ c. search needs) (λ c. search needs)
-    cast-put-word
-    (λ c κs. search needs) (λ c. search needs) (λ c. search needs) (λ c. search needs) (λ c. search needs)
-    cast-put-word-2
-    (λ c κs. search needs) (λ c. search needs) (λ c. search needs) (λ c. search needs) (λ c. search needs) (λ c κs. search needs) (λ c. search needs)
-    returns)
+    put-front-requires
+    (λ c. search needs)
+    returns
+    (λ c κs. search needs)
+    put-long-requires
+    (λ c. search needs)
+    returns-2)

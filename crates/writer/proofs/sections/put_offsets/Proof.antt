@@ -1,8 +1,10 @@
 -- `writer::sections::put_offsets`: where each section begins.
+use native.Mathlib.Omega.{arith}
 use borrow.Author.Needs.{needs}
 use Rattle.puts.proofs.Putting.{put-then}
 use Rattle.writer.proofs.Words.{put-as}
 use Rattle.writer.proofs.Trailers.{offsets-are}
+use Rattle.writer.proofs.LoopBytes.{facts-narrow}
 use Rattle.writer.proofs.sections.put_offsets.Statement.{statement}
 use Rattle.writer.proofs.sections.put_offsets.Tie as tie
 
@@ -18,10 +20,21 @@ returns c =
       search needs,
     )
 
+cast-put-long-3 : tie.Need-cast-put-long-3
+cast-put-long-3 c =
+    let loops = c .before .before .before .before in
+    let edges = loops .before .before .before .before .before in
+    let nodes = edges .before .before .before .before .before in
+    let s = nodes .before .before .before in
+    let widths = s .good .1 .1 .0 .1 in
+    omega (arith, c .facts-at .ensures, facts-narrow (s .args .trailer) (search (needs, s .good)) (search (needs, s .good)) (search (needs, widths .1 .1)))
+
 pub put-offsets-spec : {M : Type 1} → statement M
 put-offsets-spec =
     tie.close
     (tie.spec
     (λ c κs. search needs) (λ c κs. search needs) (λ c. search needs) (λ c κs. search needs) (λ c κs. search needs) (λ c. search needs)
-    (λ c κs. search needs) (λ c κs. search needs) (λ c. search needs) (λ c κs. search needs) (λ c. search needs)
+    (λ c κs. search needs) (λ c κs. search needs)
+    cast-put-long-3
+    (λ c κs. search needs) (λ c. search needs)
     returns)
