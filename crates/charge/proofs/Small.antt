@@ -4,10 +4,11 @@ use native.Mathlib.Omega.{arith}
 use native.Mathlib.Nat.{div-le-self, mod-lt}
 use mathlib.Core.Bool.{cond, not}
 use mathlib.Core.List.{List}
-use lib.Dec.{eqb, ltb}
+use lib.Dec.{eqb, ltb, leb}
 use lib.ListN.{getD}
 use Rattle.paper.specs.declared.Trailer.{Trailer}
 use Rattle.paper.specs.Machines.{none}
+use Rattle.paper.specs.Trees.{treeLimit}
 use Rattle.paper.specs.Graphs.{count}
 use Rattle.paper.specs.Bounds.{g, boundOf, covers, counts, entered, factBound}
 use Rattle.paper.specs.Files.{nodeAt, caseOf}
@@ -26,7 +27,7 @@ bound-low : (p k l E N a : ℕ) → E + N ≤ a → boundOf p k l E N ≤ a
 unfolding boundOf
 bound-low p k l E N a h =
     let z : E ≤ a = omega arith in
-    each (λ P. P .bound k l E N ≤ a) z (cond-low (ltb l 2) z (omega (arith, div-le-self (N - E) (g k l)))) (cond-low (ltb l 3) z (omega arith)) p
+    each (λ P. P .bound k l E N ≤ a) z (cond-low (ltb l 2) z (omega (arith, div-le-self (N - E) (g k l)))) (cond-low (ltb l 3) z (omega arith)) (cond-low (leb l (treeLimit k)) z (omega arith)) p
 
 module _ (f : List ℕ) (trailer : Trailer) (laid : Laid f trailer) (sound : Sound (caseOf f trailer)) where
   -- "block b lives in set b mod S"
