@@ -2,38 +2,26 @@
 use Prim.Native.Nat.{ℕ, zero, suc, _+_, _-_, _*_, _≤_, _<_}
 use native.Mathlib.Omega.{arith}
 use native.Mathlib.Decide.{ℕ-discrete, decLt}
-use native.Mathlib.Nat.{div-le-self, div-mul-le-self, le-div-iff-mul-le, le-trans, mul-le-mul-left}
+use native.Mathlib.Nat.{div-mul-le-self, le-div-iff-mul-le, le-trans, mul-le-mul-left}
 use mathlib.Core.Path.{_≡_, refl, sym, _∙_, ap}
 use mathlib.Core.Logic.{dite}
 use mathlib.Core.Bool.{Bool, true, false, cond, _&&_}
 use mathlib.Core.List.{List}
 use borrow.Author.Tests.{lt-ltb, le-ltb}
-use lib.Dec.{ltb, leb}
 use Rattle.paper.specs.Lists.{sumTo, lowestTo}
-use Rattle.paper.specs.Policies.{Parts, partsOf}
-use Rattle.paper.specs.Machines.{treeLimit}
+use Rattle.paper.specs.Policies.{partsOf}
 use Rattle.paper.specs.Cases.{Fact, Case}
 use Rattle.paper.specs.Graphs.{count, headerVisits, innermost, outer, entriesOf, entries}
-use Rattle.paper.specs.Bounds.{g, boundOf, floorOf, covers, counts, entered, factBound, lives, uncovered, sumOf, anyFact, A, upTo, M, floorAt, leastFloor, setBound, totalBound}
+use Rattle.paper.specs.Bounds.{floorOf, covers, counts, entered, factBound, lives, uncovered, sumOf, anyFact, A, upTo, M, floorAt, leastFloor, setBound, totalBound}
 use Rattle.paper.specs.Files.{readCase}
 use Rattle.paper.specs.Salvaging.{skip, withoutFact, RemovalHolds}
-use Rattle.paper.proofs.PolicyLaws.{each}
+use Rattle.paper.proofs.PolicyLaws.{bound-low}
 use Rattle.paper.proofs.Says.{Says, says-bool, holds, fails, says-and, says-true, both}
 use Rattle.paper.proofs.Meaning.{Sound, Ordered}
 use Rattle.paper.proofs.TestLaws.{lives-says, covers-says, uncovered-says}
 use Rattle.paper.proofs.VerdictLaws.{file-sound, file-ordered}
 use Rattle.theory.proofs.SumLaws.{sum-le, sum-same, sum-two}
 use Rattle.theory.proofs.Once.{once}
-
--- no policy's bound is above N where E is not
-cond-low : (b : Bool) {x y n : ℕ} → x ≤ n → y ≤ n → cond b x y ≤ n
-cond-low true h k = h
-cond-low false h k = k
-
-bound-low : (policy k l E N : ℕ) → E ≤ N → boundOf policy k l E N ≤ N
-unfolding boundOf
-bound-low policy k l E N h =
-    each (λ (p : Parts). p .bound k l E N ≤ N) h (cond-low (ltb l 2) h (omega (arith, div-le-self (N - E) (g k l)))) (cond-low (ltb l 3) h (omega arith)) (cond-low (leb l (treeLimit k)) h (omega arith)) policy
 
 -- the facts that are left where fact r goes
 module _ (r j : ℕ) where
