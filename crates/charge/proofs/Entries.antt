@@ -18,7 +18,7 @@ use Rattle.paper.specs.Files.{loopAt, factAt, caseOf}
 use Rattle.paper.proofs.Meaning.{In, SoundGraph}
 use Rattle.paper.proofs.Says.{says-true, says-false}
 use Rattle.paper.proofs.GraphLaws.{inside-says}
-use Rattle.paper.proofs.PolicyLaws.{cond-low}
+use Rattle.paper.proofs.BoundLaws.{cond-low}
 use Rattle.paper.proofs.Nests.{Around, outer-next, outer-alone, outer-low}
 use Rattle.paper.specs.Ceilings.{mostCount}
 use Rattle.charge.specs.NextOut.{nextOut, Outers}

@@ -12,7 +12,7 @@ use Rattle.paper.specs.Graphs.{count}
 use Rattle.paper.specs.Bounds.{covers, counts, entered, factBound}
 use Rattle.paper.specs.Files.{nodeAt, caseOf}
 use Rattle.paper.proofs.Meaning.{SoundHead, Sound}
-use Rattle.paper.proofs.PolicyLaws.{cond-low, bound-low}
+use Rattle.paper.proofs.BoundLaws.{cond-low, bound-low}
 use Rattle.paper.specs.Known.{Laid}
 use Rattle.paper.specs.Ceilings.{mostCount}
 use Rattle.formulas.specs.Largest.{largestVisits, largestBound, largestEntered, largestCharged}

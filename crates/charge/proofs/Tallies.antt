@@ -11,7 +11,7 @@ use lib.ListN.{length, getD, length-set, replicate, getD-replicate, length-repli
 use lib.Seq.{getD-set-same, getD-set-other}
 use Rattle.paper.specs.Lists.{sumTo}
 use Rattle.formulas.specs.Largest.{largestBound}
-use Rattle.paper.proofs.PolicyLaws.{cond-low}
+use Rattle.paper.proofs.BoundLaws.{cond-low}
 use Rattle.charge.specs.Sizes as Sizes
 use Rattle.charge.specs.Tables.{Tallied, plus, placeOf, Grouped, Open}
 use Rattle.charge.proofs.SmallSums.{sum-low}

@@ -6,6 +6,7 @@ pub mod TableLaws
 pub mod Bits
 pub mod TreeLaws
 pub mod PolicyLaws
+pub mod BoundLaws
 pub mod States
 pub mod Meaning
 pub mod RuleLaws

@@ -1,15 +1,10 @@
 -- What holds of the parts of each policy holds of the parts of every policy's number.
-use Prim.Native.Nat.{ℕ, _-_, _≤_}
+use Prim.Native.Nat.{ℕ, _≤_}
 use mathlib.Core.Path.{_≡_}
-use mathlib.Core.Bool.{Bool, true, false, cond}
 use native.Mathlib.Decide.{ℕ-discrete}
-use native.Mathlib.Nat.{div-le-self}
 use native.Mathlib.Omega.{arith}
 use borrow.Author.Tests.{eq-eqb, ne-eqb}
-use lib.Dec.{ltb, leb}
 use Rattle.paper.specs.Policies.{Parts, lru, fifo, nmru, tree, partsOf}
-use Rattle.paper.specs.Trees.{treeLimit}
-use Rattle.paper.specs.Bounds.{g, boundOf}
 
 pub by-policy : (Q : Parts → Type 0) (p : ℕ) → (p ≡ 0 → Q lru) → (p ≡ 1 → Q fifo) → (p ≡ 2 → Q nmru) → (3 ≤ p → Q tree) → Q (partsOf p)
 by-policy Q p a b c d =
@@ -28,13 +23,3 @@ by-policy Q p a b c d =
 
 pub each : (Q : Parts → Type 0) → Q lru → Q fifo → Q nmru → Q tree → (p : ℕ) → Q (partsOf p)
 each Q a b c d p = by-policy Q p (λ e. a) (λ e. b) (λ e. c) (λ h. d)
-
-pub cond-low : (t : Bool) {x y b : ℕ} → x ≤ b → y ≤ b → cond t x y ≤ b
-cond-low true h k = h
-cond-low false h k = k
-
--- no policy's bound is above N where E is not
-pub bound-low : (p k l E N : ℕ) → E ≤ N → boundOf p k l E N ≤ N
-unfolding boundOf
-bound-low p k l E N h =
-    each (λ (q : Parts). q .bound k l E N ≤ N) h (cond-low (ltb l 2) h (omega (arith, div-le-self (N - E) (g k l)))) (cond-low (ltb l 3) h (omega arith)) (cond-low (leb l (treeLimit k)) h (omega arith)) p

@@ -15,7 +15,7 @@ use Rattle.paper.specs.Graphs.{count, headerVisits, innermost, outer, entriesOf
 use Rattle.paper.specs.Bounds.{floorOf, covers, counts, entered, factBound, lives, uncovered, sumOf, anyFact, A, upTo, M, floorAt, leastFloor, setBound, totalBound}
 use Rattle.paper.specs.Files.{readCase}
 use Rattle.paper.specs.Salvaging.{skip, withoutFact, RemovalHolds}
-use Rattle.paper.proofs.PolicyLaws.{bound-low}
+use Rattle.paper.proofs.BoundLaws.{bound-low}
 use Rattle.paper.proofs.Says.{Says, says-bool, holds, fails, says-and, says-true, both}
 use Rattle.paper.proofs.Meaning.{Sound, Ordered}
 use Rattle.paper.proofs.TestLaws.{lives-says, covers-says, uncovered-says}
