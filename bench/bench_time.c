@@ -12,7 +12,7 @@ typedef uint8_t trace_run(uint8_t policy, uint8_t ways, uint8_t sets, const uint
 enum { PLAIN, PROVED, HAND, WAYS_TO_RUN, MOST_RUNS = 99 };
 static trace_run *const run[WAYS_TO_RUN] = {plain_trace_run, bolgverk_trace_run, hand_trace_run};
 static const char *const traces[] = {"random", "fits", "exceeds", "nested"};
-static const char *const policies[] = {"LRU", "FIFO", "NMRU"};
+static const char *const policies[] = {"LRU", "FIFO", "NMRU", "tree"};
 
 /* Blocks of a cache that holds `held`, a way of `sets`: at random from one and a half times as many; a loop of one way less than fits, or of one more; or as many as fit, one after the other,
  * and then an inner loop of half as many, ten times. */
@@ -95,7 +95,7 @@ int main(int argc, char **argv)
     uint16_t *blocks = malloc(2 * accesses);
     uint8_t *marks = malloc(accesses), *expected = malloc(accesses);
     printf("policy ways sets trace    plain proved   hand  plain/proved           hand/proved\n");
-    for (unsigned policy = 0; policy < 3; policy++)
+    for (unsigned policy = 0; policy < 4; policy++)
         for (unsigned trace = 0; trace < 4; trace++)
             for (unsigned ways = 4; ways <= 8; ways += 4)
                 for (unsigned sets = 1; sets <= 64; sets *= 64)

@@ -99,6 +99,33 @@ static __attribute__((target("ssse3"))) uint64_t nmru(ARGUMENTS)
             p = (p | one) == full ? one : p | one;)
 }
 
+/* The bits above each line, and what they are after an access to it. */
+static __attribute__((target("ssse3"))) uint64_t tree(ARGUMENTS)
+{
+    const lines own = {1, 2, 4, 8, 16, 32, 64, 128};
+    unsigned above[MOST_WAYS], away[MOST_WAYS];
+    for (unsigned j = 0; j < ways; j++) {
+        above[j] = away[j] = 0;
+        for (unsigned i = ways - 1 + j; i > 0; i = (i - 1) / 2)
+            above[j] |= 1u << (i - 1) / 2, away[j] |= (i & 1) << (i - 1) / 2;
+    }
+    RUN(,
+        unsigned j;
+        if (found) {
+            j = (unsigned)__builtin_ctz(found);
+        } else {
+            unsigned n = 1 + (p & 1);
+            if (ways > 2)
+                n = 2 * n + 1 + (p >> n & 1);
+            if (ways > 4)
+                n = 2 * n + 1 + (p >> n & 1);
+            j = n - (ways - 1);
+            lines here = own == all((uint16_t)(1u << j));
+            row = (row & ~here) | (all(b) & here);
+        }
+        p = (p & ~above[j]) | away[j];)
+}
+
 uint8_t hand_trace_run(uint8_t policy, uint8_t ways, uint8_t sets, const uint16_t *blocks, size_t blocks_length, uint8_t *marks,
                        size_t marks_length, uint64_t *misses, uint64_t *place)
 {
@@ -110,6 +137,6 @@ uint8_t hand_trace_run(uint8_t policy, uint8_t ways, uint8_t sets, const uint16_
     for (size_t i = 0; i < blocks_length; i++)
         if (blocks[i] == NONE)
             return *place = i, 21;
-    *misses = (policy == LRU ? lru : policy == FIFO ? fifo : nmru)(ways, sets, blocks, blocks_length, marks);
+    *misses = (policy == LRU ? lru : policy == FIFO ? fifo : policy == NMRU ? nmru : tree)(ways, sets, blocks, blocks_length, marks);
     return 0;
 }

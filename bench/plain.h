@@ -21,3 +21,6 @@ uint8_t plain_write(uint8_t version, uint8_t policy, uint8_t ways, uint8_t sets,
 
 uint8_t plain_find(const uint8_t *file, size_t file_length, uint16_t scope, uint16_t block, uint16_t *rows, size_t rows_length, uint16_t *limit,
                    uint64_t *place);
+
+uint8_t plain_salvage(const uint8_t *file, size_t file_length, uint8_t *out, size_t out_length, uint64_t *dropped, size_t dropped_length,
+                      uint64_t *length, uint64_t *count, uint64_t *place);

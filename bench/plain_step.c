@@ -8,7 +8,7 @@ static int is_legal(unsigned policy, unsigned ways, const uint16_t *lines, uint8
     for (unsigned i = 0; i < MOST_WAYS; i++)
         if (lines[i] != NONE && (i >= ways || line_of(lines, i, lines[i]) < i))
             return 0;
-    return policy == NMRU ? bits < (1u << ways) - 1 : bits == 0;
+    return bits < (policy == NMRU ? (1u << ways) - 1 : policy == TREE ? 1u << (ways - 1) : 1u);
 }
 
 uint8_t plain_step(uint8_t policy, uint8_t ways, uint16_t lines[8], uint8_t *bits, uint16_t block)
@@ -27,8 +27,10 @@ uint8_t plain_step(uint8_t policy, uint8_t ways, uint16_t lines[8], uint8_t *bit
         miss = lru(&set, ways, block);
     else if (policy == FIFO)
         miss = fifo(&set, ways, block);
-    else
+    else if (policy == NMRU)
         miss = nmru(&set, ways, block);
+    else
+        miss = tree(&set, ways, block);
     memcpy(lines, set.lines, sizeof set.lines);
     *bits = set.bits;
     return miss;

@@ -23,8 +23,10 @@ static uint64_t run(unsigned policy, unsigned ways, unsigned sets, const uint16_
         RUN(lru)
     else if (policy == FIFO)
         RUN(fifo)
-    else
+    else if (policy == NMRU)
         RUN(nmru)
+    else
+        RUN(tree)
     return misses;
 }
 

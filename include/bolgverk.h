@@ -8,7 +8,7 @@
  *
  * A refusal has a number, a place and a second place, as in the table at the end. A refused call writes no lent memory but *place and
  * *second. Only the refusals of the check and the writer have a second place that is not 0, so only these two hand one over.
- * Policies: 0 LRU, 1 FIFO, 2 NMRU. Ways: 1 to 8 (NMRU 2 to 8). Sets: 1 to 64. Blocks: 0 to 65,534; 65,535 means none.
+ * Policies: 0 LRU, 1 FIFO, 2 NMRU, 3 tree. Ways: 1 to 8 (NMRU 2 to 8, tree 2, 4 or 8). Sets: 1 to 64. Blocks: 0 to 65,534; 65,535 means none.
  */
 #ifndef BOLGVERK_H
 #define BOLGVERK_H
@@ -68,6 +68,22 @@ uint8_t bolgverk_write(uint8_t version, uint8_t policy, uint8_t ways, uint8_t se
 uint8_t bolgverk_find(const uint8_t *file, size_t file_length, uint16_t scope, uint16_t block, uint16_t *rows, size_t rows_length,
                       uint16_t *limit, uint64_t *place);
 
+/* Salvages a case file with bad facts: drops each fact that earns 12 to 14, 16 to 18, 24 or 25, everything from a fact that is cut short onward, and bytes that belong
+ * to no fact, and writes the rest: the same graph and version, and the facts kept, as they were and in their order. bolgverk_check accepts what is written; a file
+ * that it accepts already stays the same.
+ *   file, file_length        the file's bytes; only read
+ *   out, out_length          gets what is left of the file, if nothing is refused; bytes past it stay as they are
+ *   dropped, dropped_length  gets three numbers for each fact dropped, in the file's order, if nothing is refused: the first number that it earns, its place in the
+ *                            file, and its second place (for 16 and 18 the node, for 17, 24 and 25 the edge, else 0); numbers past them stay as they are
+ *   length                   gets the length of what is left, if nothing is refused: never more than file_length
+ *   count                    gets how many facts are dropped, if nothing is refused: never more than 256
+ *   place                    gets the refusal's place, 0 if nothing is refused; always written
+ * Order (13) is judged against the last fact kept. A fact is cut short where fewer than 6 bytes are left (11), where its loop number is bad (12: its length is not known), and
+ * where its rows are; all facts after it get 11. Returns 0, or the refusal's number: 1 to 10 (26 after 9) as the check has them, then 20 where out_length is below the
+ * length or dropped_length below three numbers for each fact dropped, at place 0. */
+uint8_t bolgverk_salvage(const uint8_t *file, size_t file_length, uint8_t *out, size_t out_length, uint64_t *dropped, size_t dropped_length,
+                         uint64_t *length, uint64_t *count, uint64_t *place);
+
 /* Runs a trace of block accesses from empty sets.
  *   policy, ways, sets       the cache
  *   blocks, blocks_length    the accesses in order; only read
@@ -84,9 +100,11 @@ uint8_t bolgverk_trace_run(uint8_t policy, uint8_t ways, uint8_t sets, const uin
 /* One access to one set.
  *   policy, ways             the cache; the block's set is not looked at
  *   lines                    the set's eight lines, 65,535 for an empty one, those from `ways` on empty; changed in place
- *   bits                     the set's bits: bit i of value 2^i is line i's, all 0 for LRU and FIFO; changed in place
+ *   bits                     the set's bits: bit i of value 2^i is line i's, all 0 for LRU and FIFO, the tree's bits from the root; changed in place
  *   block                    the block accessed
  * An NMRU miss takes the lowest empty line, whatever its bit, and only where none of the ways is empty the lowest line whose bit is 0.
+ * A tree's bits are 0, the root, and 2i+1 and 2i+2 below bit i; 0 points to the lower lines. A miss takes the line that they lead to,
+ * empty or not, and each access turns the bits on its line's path away from it. Those from `ways` - 1 on are 0.
  * Returns 0 for a hit, 1 for a miss, else the refusal's number: 3, 22, 21, tested in this order. Its place is 0, and a refused step
  * leaves lines and bits as they were. */
 uint8_t bolgverk_step(uint8_t policy, uint8_t ways, uint16_t lines[8], uint8_t *bits, uint16_t block);
@@ -123,7 +141,7 @@ uint8_t bolgverk_set_of(uint16_t block, uint8_t sets, uint8_t *set);
  *   17  a set is followed by row 9, or by a set that lacks a block                                           fact           edge
  *   18  a node that fetches the fact's block has row 8 ("many")                                              fact           node
  *   19  bytes are left between the last fact and the trailer                                                 0              0
- *   20  the lent list is too short: 321 numbers, one byte an access, the file's bytes, or the rows found     0              0
+ *   20  the lent list is too short: 321 numbers, one byte an access, the file's bytes, the rows found, or the facts dropped 0              0
  *   21  block 65,535 is accessed, or an address's block is above 65,534                                      access, else 0 0
  *   22  the set's state is not legal                                                                         0              0
  *   23  the line size is none of 8, 16, 32, 64, 128                                                          0              0

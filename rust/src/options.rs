@@ -16,8 +16,9 @@ parts:
   bounds      what the program `bounds` prints for case files, sound, damaged and too long
   evidence    evidence exists exactly when it should
   finds       facts that are found in graphs without them: limits and rows, and refusals
+  salvages    files with several bad facts, cut ones and strays: what is left of them, what is dropped, and refusals
   walks       no walk through an accepted file misses more than its bounds say
-  must-break  wrong bounds, each with a file, a walk and a content that exceed it (`pipe` may be left out)
+  must-break  wrong bounds, each with a file, a walk and a content that exceed it, and wrong salvages (`pipe` may be left out)
   search      looks for such files anew, with random walks (needs no `pipe`)
   all         all of these but search
 In each part but search every file that passes the layout rules is also taken apart, and the writer must make the same bytes of its lists again.
@@ -36,6 +37,7 @@ options:
   --walked N    small files that are walked through, or searched (10000)
   --written N   contents that are written (10000)
   --searched N  small graphs that facts are found in (1000)
+  --salvaged N  files that are salvaged (4000)
 ";
 
 pub struct Options {
@@ -56,6 +58,7 @@ pub fn read(arguments: impl Iterator<Item = String>) -> Result<Options, String> 
         walked: 10_000,
         written: 10_000,
         searched: 1_000,
+        salvaged: 4_000,
         library: None,
     };
     let mut options = Options { settings, pipe: None, bounds: None, parts: Vec::new() };
@@ -98,6 +101,7 @@ impl Options {
             "--walked" => self.settings.walked = number,
             "--written" => self.settings.written = number,
             "--searched" => self.settings.searched = number,
+            "--salvaged" => self.settings.salvaged = number,
             _ => return Err(format!("no option {option}")),
         }
         Ok(())

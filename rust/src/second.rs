@@ -1,6 +1,6 @@
 //! The second simulator's answer to any request of `pipe`.
 
-use crate::case::{check, find, write, Paper};
+use crate::case::{check, find, salvage, write, Paper};
 use crate::machine::{address, step, trace, Outcome};
 use crate::pipe::{Answer, Body, Request};
 use crate::refusal::Refusal;
@@ -41,6 +41,17 @@ pub fn answer(request: &Request) -> Answer {
             let found = find(file, *scope, *block, &mut after);
             let refused = Body::Find { limit: 0, rows: rows.clone() };
             outcome(found, refused, |limit| Body::Find { limit: limit.unwrap_or(0) as u16, rows: after })
+        }
+        Request::Salvage { file, out, dropped } => {
+            let (mut after, mut list) = (out.clone(), dropped.clone());
+            let salvaged = salvage(file, &mut after, &mut list);
+            let refused = Body::Salvage { length: 0, count: 0, out: out.clone(), dropped: dropped.clone() };
+            outcome(salvaged, refused, |(length, count)| Body::Salvage {
+                length: length as u64,
+                count: count as u64,
+                out: after,
+                dropped: list,
+            })
         }
     }
 }

@@ -41,7 +41,7 @@ fn an_nmru_miss_fills_the_lowest_hole() {
 fn refusals_come_in_order() {
     let twice = state([7, 7, HOLE, HOLE], 0);
     let refused = |policy, ways, state: &SetState, block| step(policy, ways, state, block).err();
-    assert_eq!(refused(3, 4, &twice, NONE), Some(Refusal::new(3, 0)));
+    assert_eq!(refused(4, 4, &twice, NONE), Some(Refusal::new(3, 0)));
     assert_eq!(refused(0, 4, &twice, NONE), Some(Refusal::new(22, 0)));
     assert_eq!(refused(0, 4, &SetState::EMPTY, NONE), Some(Refusal::new(21, 0)));
     let illegal = [(0, 4, state([7; 4], 0)), (1, 2, state([1, 2, 3, HOLE], 0)), (0, 4, state([HOLE; 4], 1))];

@@ -65,7 +65,8 @@ fn a_file_that_does_not_fit() {
 
 #[test]
 fn each_refusal_with_its_places() {
-    assert_eq!(earns(|c| c.policy = 3), (3, 0, 0));
+    assert_eq!(earns(|c| c.policy = 4), (3, 0, 0));
+    assert_eq!(earns(|c| (c.policy, c.ways) = (3, 3)), (3, 0, 0));
     assert_eq!(earns(|c| (c.policy, c.ways) = (2, 1)), (3, 0, 0));
     assert_eq!(earns(|c| c.sets = 65), (3, 0, 0));
     assert_eq!(earns(|c| c.nodes.clear()), (4, 0, 0));

@@ -1,3 +1,4 @@
 pub mod Asking
 pub mod AskingWrites
 pub mod AskingFinds
+pub mod AskingSalvages

@@ -2,6 +2,7 @@
 pub mod addresses;
 pub mod checks;
 pub mod finds;
+pub mod salvages;
 pub mod sets;
 pub mod steps;
 pub mod traces;
@@ -35,6 +36,9 @@ pub const FOUND: usize = 16384;
 // The bytes that a writer is lent.
 pub const OUT: usize = 2150000;
 
+// The bytes of a file that is salvaged, and those that its rest is lent.
+pub const SALVAGE: usize = 1048576;
+
 // The bytes have room for what stands before the lent memory, then for the lent memory. A check's takes most.
 pub const ROOM: usize = places::LENT_AT + FILE + 8 * NUMBERS;
 
@@ -51,6 +55,7 @@ pub fn argument_bytes(operation: u8) -> usize
         5 => places::CHECK_SIZE,
         6 => places::WRITE_SIZE,
         7 => places::FIND_SIZE,
+        8 => places::SALVAGE_SIZE,
         _ => 0,
     }
 }

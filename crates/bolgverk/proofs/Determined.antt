@@ -14,14 +14,16 @@ use Rattle.paper.specs.declared.TraceAnswer.{TraceAnswer}
 use Rattle.paper.specs.declared.Verdict.{Verdict}
 use Rattle.paper.specs.declared.WriteAnswer.{WriteAnswer}
 use Rattle.paper.specs.declared.FindAnswer.{FindAnswer}
+use Rattle.paper.specs.declared.SalvageAnswer.{SalvageAnswer}
 use Rattle.paper.specs.Operations.{stepAnswer, blockAnswer, setAnswer}
 use Rattle.paper.specs.Traces.{traceRun}
 use Rattle.paper.specs.Verdicts.{verdict, lentAfter}
 use Rattle.paper.specs.Writing.{writeVerdict, writeAnswer}
+use Rattle.paper.specs.Salvaging.{salvageVerdict, salvageAnswer}
 use Rattle.lists.specs.Listings.{offered}
-use Rattle.paper.proofs.AnswerLaws.{same-verdict, same-trace, same-outcome, same-block, same-set, same-write, same-find}
+use Rattle.paper.proofs.AnswerLaws.{same-verdict, same-trace, same-outcome, same-block, same-set, same-write, same-find, same-salvage}
 use Rattle.theory.proofs.FoundOnce.{outcome-once}
-use Rattle.bolgverk.specs.Promises.{StepPromise, BlockPromise, SetPromise, TracePromise, CheckPromise, WritePromise, FindPromise}
+use Rattle.bolgverk.specs.Promises.{StepPromise, BlockPromise, SetPromise, TracePromise, CheckPromise, WritePromise, FindPromise, SalvagePromise}
 
 answer-of : (r r′ : StepAnswer) → r .state ≡ r′ .state → r .outcome ≡ r′ .outcome → r ≡ r′
 answer-of r r′ s o =
@@ -83,3 +85,14 @@ module _ (file : List ℕ) (scope block : ℕ) (lent : List ℕ) where
   find-determined r r′ after after′ p q =
       let o = outcome-once file scope block lent _ _ after after′ (p .outcome) (q .outcome) in
       (same-find r r′ (o .0), o .1)
+
+module _ (file out list : List ℕ) where
+  pub salvage-answer : (r : SalvageAnswer) (after listAfter : List ℕ) → SalvagePromise file out list r after listAfter →
+      r ≡ salvageAnswer file (salvageVerdict file (length out) (length list))
+  salvage-answer r after listAfter p = same-salvage _ _ (p .told)
+
+  pub salvage-determined : (r r′ : SalvageAnswer) (after after′ listAfter listAfter′ : List ℕ) →
+      SalvagePromise file out list r after listAfter → SalvagePromise file out list r′ after′ listAfter′ →
+      (r ≡ r′) × (after ≡ after′) × (listAfter ≡ listAfter′)
+  salvage-determined r r′ after after′ listAfter listAfter′ p q =
+      (salvage-answer r after listAfter p ∙ sym (salvage-answer r′ after′ listAfter′ q), p .bytes ∙ sym (q .bytes), p .dropped ∙ sym (q .dropped))

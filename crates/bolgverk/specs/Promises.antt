@@ -14,8 +14,9 @@ use Rattle.paper.specs.declared.TraceAnswer.{TraceAnswer}
 use Rattle.paper.specs.declared.Verdict.{Verdict}
 use Rattle.paper.specs.declared.WriteAnswer.{WriteAnswer}
 use Rattle.paper.specs.declared.FindAnswer.{FindAnswer}
+use Rattle.paper.specs.declared.SalvageAnswer.{SalvageAnswer}
 use Rattle.paper.specs.declared.Verdict.the-variants.{Accepted}
-use Rattle.paper.specs.Answers.{toldVerdict, toldTrace, toldOutcome, toldBlock, toldSet, toldWrite, toldFind}
+use Rattle.paper.specs.Answers.{toldVerdict, toldTrace, toldOutcome, toldBlock, toldSet, toldWrite, toldFind, toldSalvage}
 use Rattle.paper.specs.Operations.{stepAnswer, blockAnswer, setAnswer}
 use Rattle.paper.specs.Traces.{traceRun}
 use Rattle.paper.specs.Files.{readCase}
@@ -23,6 +24,7 @@ use Rattle.paper.specs.Verdicts.{verdict, lentAfter}
 use Rattle.paper.specs.Demands.{Holds, EvidenceExact}
 use Rattle.paper.specs.Writing.{writeVerdict, writeAnswer, outAfter, ReadsBack, WritesBack}
 use Rattle.paper.specs.Finding.{FindOutcome}
+use Rattle.paper.specs.Salvaging.{salvaged, droppedList, salvageVerdict, salvageAnswer, lentBy, SalvageHolds, RemovalHolds}
 use Rattle.lists.specs.Listings.{offered}
 
 -- A step's answer is a state and an outcome.
@@ -64,3 +66,12 @@ pub record WritePromise (version policy ways sets : ℕ) (nodes edges loops head
 -- what walks gather: those stand in the lent rows, and the tool accepts them.
 pub record FindPromise (file : List ℕ) (scope block : ℕ) (lent : List ℕ) (r : FindAnswer) (after : List ℕ) : Type 0 where
   pub outcome : FindOutcome file scope block lent (toldFind r) after
+
+-- `out` and `after`: the lent bytes before and after; `list` and `listAfter`: the lent numbers. What is promised of the file that is written is `holds`, and `removal` is the request's last sentence on facts:
+-- "Removing a fact from an accepted file never lowers a set bound or the total".
+pub record SalvagePromise (file out list : List ℕ) (r : SalvageAnswer) (after listAfter : List ℕ) : Type 0 where
+  pub told : toldSalvage r ≡ toldSalvage (salvageAnswer file (salvageVerdict file (length out) (length list)))
+  pub bytes : after ≡ lentBy (salvaged file) out (salvageVerdict file (length out) (length list))
+  pub dropped : listAfter ≡ lentBy (droppedList file) list (salvageVerdict file (length out) (length list))
+  pub holds : SalvageHolds file
+  pub removal : RemovalHolds file

@@ -1,11 +1,12 @@
 // The public face of Bolgverk: every public operation, each thin, with its whole promise. Each takes every input.
-ghost use Rattle.bolgverk.specs.Promises.{StepPromise, BlockPromise, SetPromise, TracePromise, CheckPromise, WritePromise, FindPromise};
+ghost use Rattle.bolgverk.specs.Promises.{StepPromise, BlockPromise, SetPromise, TracePromise, CheckPromise, WritePromise, FindPromise, SalvagePromise};
 use layout::Layout;
 use paper::Address;
 use paper::Block;
 use paper::BlockAnswer;
 use paper::FindAnswer;
 use paper::LIST_LENGTH;
+use paper::SalvageAnswer;
 use paper::SetAnswer;
 use paper::SetState;
 use paper::StepAnswer;
@@ -89,4 +90,11 @@ pub fn find(file: &[u8], scope: u16, block: u16, rows: &mut [u16]) -> FindAnswer
     ensures { λ r. ⌜ FindPromise (now (file .entry)) scope block (now (rows .entry)) r (now (rows .exit)) ⌝ }
 {
     finder::find(file, scope, block, rows)
+}
+
+// "drops each fact that earns 12 to 14 or 16 to 18, 24 or 25, …, and writes the rest, with a list of dropped facts": three numbers a fact, its number of refusal, its place and the second place.
+pub fn salvage(file: &[u8], out: &mut [u8], dropped: &mut [u64]) -> SalvageAnswer
+    ensures { λ r. ⌜ SalvagePromise (now (file .entry)) (now (out .entry)) (now (dropped .entry)) r (now (out .exit)) (now (dropped .exit)) ⌝ }
+{
+    salvager::salvage(file, out, dropped)
 }

@@ -18,6 +18,7 @@ use Rattle.paper.specs.Files.{loopAt, factAt, caseOf}
 use Rattle.paper.proofs.Meaning.{In, SoundGraph}
 use Rattle.paper.proofs.Says.{says-true, says-false}
 use Rattle.paper.proofs.GraphLaws.{inside-says}
+use Rattle.paper.proofs.BoundLaws.{cond-low}
 use Rattle.paper.proofs.Nests.{Around, outer-next, outer-alone, outer-low}
 use Rattle.paper.specs.Ceilings.{mostCount}
 use Rattle.charge.specs.NextOut.{nextOut, Outers}
@@ -25,7 +26,6 @@ use Rattle.charge.specs.ReadyFile.{Ready}
 use Rattle.charge.specs.Tables.{headOf}
 use Rattle.charge.specs.declared.heads.Head.{Head}
 use Rattle.charge.proofs.Last.{last-low, last-is, last-none}
-use Rattle.charge.proofs.SmallSums.{cond-low}
 
 module _ (e : Case) (g : SoundGraph e) (j : ℕ) (hj : j < e .loops) where
   fits : (i : ℕ) → i < e .loops → e .loop i .first ≤ e .loop i .last

@@ -1,32 +1,26 @@
 -- The numbers of a file's facts and nodes are small, and so are their sums.
-use Prim.Native.Nat.{ℕ, _+_, _-_, _%_, _≤_, _<_}
+use Prim.Native.Nat.{ℕ, _+_, _%_, _≤_, _<_}
 use native.Mathlib.Omega.{arith}
-use native.Mathlib.Nat.{div-le-self, mod-lt}
+use native.Mathlib.Nat.{le-trans, mod-lt}
 use mathlib.Core.Bool.{cond, not}
 use mathlib.Core.List.{List}
-use lib.Dec.{eqb, ltb}
+use lib.Dec.{eqb}
 use lib.ListN.{getD}
 use Rattle.paper.specs.declared.Trailer.{Trailer}
 use Rattle.paper.specs.Machines.{none}
 use Rattle.paper.specs.Graphs.{count}
-use Rattle.paper.specs.Bounds.{g, boundOf, covers, counts, entered, factBound}
+use Rattle.paper.specs.Bounds.{covers, counts, entered, factBound}
 use Rattle.paper.specs.Files.{nodeAt, caseOf}
 use Rattle.paper.proofs.Meaning.{SoundHead, Sound}
-use Rattle.paper.proofs.PolicyLaws.{each}
+use Rattle.paper.proofs.BoundLaws.{cond-low, bound-low}
 use Rattle.paper.specs.Known.{Laid}
 use Rattle.paper.specs.Ceilings.{mostCount}
 use Rattle.formulas.specs.Largest.{largestVisits, largestBound, largestEntered, largestCharged}
 use Rattle.charge.specs.Sizes as Sizes
 use Rattle.charge.specs.Tables.{weight, FactsAdded, NodesAdded}
 use Rattle.charge.proofs.Entries.{entries-low}
-use Rattle.charge.proofs.SmallSums.{sum-low, cond-low}
+use Rattle.charge.proofs.SmallSums.{sum-low}
 use Rattle.charge.proofs.Tallies.{sets-low, limits-low}
-
-bound-low : (p k l E N a : ℕ) → E + N ≤ a → boundOf p k l E N ≤ a
-unfolding boundOf
-bound-low p k l E N a h =
-    let z : E ≤ a = omega arith in
-    each (λ P. P .bound k l E N ≤ a) z (cond-low (ltb l 2) z (omega (arith, div-le-self (N - E) (g k l)))) (cond-low (ltb l 3) z (omega arith)) p
 
 module _ (f : List ℕ) (trailer : Trailer) (laid : Laid f trailer) (sound : Sound (caseOf f trailer)) where
   -- "block b lives in set b mod S"
@@ -42,13 +36,17 @@ module _ (f : List ℕ) (trailer : Trailer) (laid : Laid f trailer) (sound : Sou
     unfolding entered
     entered-low = omega (arith, entries-low (caseOf f trailer) (sound .graph) (caseOf f trailer .fact i) (fact-head .scope))
 
+    fetched : entered (caseOf f trailer) (caseOf f trailer .fact i) ≤ counts (caseOf f trailer) (covers (caseOf f trailer) (caseOf f trailer .fact i))
+    unfolding entered
+    fetched = omega arith
+
     pub fact-small : (factBound (caseOf f trailer) (caseOf f trailer .fact i) ≤ largestBound) × (entered (caseOf f trailer) (caseOf f trailer .fact i) ≤ mostCount)
     unfolding factBound counts caseOf
     fact-small = (
-      bound-low (trailer .policy) (trailer .ways) (caseOf f trailer .fact i .limit) (entered (caseOf f trailer) (caseOf f trailer .fact i)) _ largestBound
+      le-trans
+          (bound-low (trailer .policy) (trailer .ways) (caseOf f trailer .fact i .limit) (entered (caseOf f trailer) (caseOf f trailer .fact i)) _ fetched)
           (omega (
             arith,
-            entered-low,
             sum-low (λ v. cond (covers (caseOf f trailer) (caseOf f trailer .fact i) v) (count (caseOf f trailer) v) 0) mostCount (trailer .nodes)
                 (λ v q. cond-low (covers (caseOf f trailer) (caseOf f trailer .fact i) v) (sound .graph .counts v q) (omega arith)),
             laid .nodes-high,

@@ -22,10 +22,6 @@ unfolding sumTo
 sum-low F b zero h = omega arith
 sum-low F b (suc n) h = rw mul-suc (omega (arith, sum-low F b n (λ j l. h j (omega arith)), h n (omega arith)))
 
-pub cond-low : (t : Bool) {x y b : ℕ} → x ≤ b → y ≤ b → cond t x y ≤ b
-cond-low true h k = h
-cond-low false h k = k
-
 -- a loop that counts to n ends at n
 pub at-end : (P : ℕ → Type 0) (i n : ℕ) → i ≤ n → n ≤ i → P i → P n
 at-end P i n l h p = let z : i ≡ n = omega arith in subst P z p

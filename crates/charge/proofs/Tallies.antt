@@ -11,9 +11,10 @@ use lib.ListN.{length, getD, length-set, replicate, getD-replicate, length-repli
 use lib.Seq.{getD-set-same, getD-set-other}
 use Rattle.paper.specs.Lists.{sumTo}
 use Rattle.formulas.specs.Largest.{largestBound}
+use Rattle.paper.proofs.BoundLaws.{cond-low}
 use Rattle.charge.specs.Sizes as Sizes
 use Rattle.charge.specs.Tables.{Tallied, plus, placeOf, Grouped, Open}
-use Rattle.charge.proofs.SmallSums.{sum-low, cond-low}
+use Rattle.charge.proofs.SmallSums.{sum-low}
 
 module _ (key amount : ℕ → ℕ) where
   tallied-start : (m : ℕ) → Tallied key amount 0 (replicate m 0)

@@ -14,7 +14,8 @@ use Rattle.paper.specs.Files.{u16At, nodeAt, edgesAt, fromAt, toAt, loopAt, fac
 use Rattle.paper.specs.Writing.{FileContent, perLoop, trailerIn, loopIn, rowsNamed, rowsBefore, caseIn, rowsAt, loopNumbers, headNumbers, rowNumbers, contentBy, badLists}
 use Rattle.paper.proofs.Parts.{stands-self}
 use Rattle.paper.proofs.LoopSizes.{per-low, visits-without}
-use Rattle.contents.proofs.Spaced.{length-spaced, getD-spaced, sum-same, sum-times, sum-all, length-each}
+use Rattle.paper.proofs.Spaces.{length-spaced, getD-spaced}
+use Rattle.contents.proofs.Spaced.{sum-same, sum-times, sum-all, length-each}
 use Rattle.contents.proofs.Standing.{stands-at}
 use Rattle.paper.proofs.SameGraphs.{SameGraph}
 use Rattle.paper.proofs.SameFacts.{SameFact}

@@ -8,7 +8,6 @@ use lib.Dec.{ltb}
 use lib.ListN.{length, getD, take}
 use lib.Seq.{ext-getD}
 use borrow.Author.Tests.{ltb-true}
-use Rattle.paper.specs.Lists.{spaced}
 use Rattle.paper.specs.Cases.{Fact}
 use Rattle.paper.specs.Demands.{Bytes}
 use Rattle.paper.specs.Records as Records
@@ -16,11 +15,10 @@ use Rattle.paper.specs.Files.{u8At, u16At, u32At}
 use Rattle.paper.specs.OneFact.{words, headBytes}
 use Rattle.paper.specs.Writing.{numberBytes, recordBytes, wordsAt}
 use Rattle.paper.proofs.Says.{both}
-use Rattle.paper.proofs.Parts.{Stands, stands-left, stands-right, stands-move}
+use Rattle.paper.proofs.Parts.{Stands, stands-left, stands-right, stands-move, stands-empty, stands-both, stands-tail, stands-cons}
 use Rattle.paper.proofs.Sections.{length-words, word-is}
 use Rattle.paper.proofs.Widths.{below-at}
-use Rattle.contents.proofs.Spaced.{length-spaced, getD-spaced}
-use Rattle.contents.proofs.Standing.{stands-empty, stands-both, stands-tail, stands-cons}
+use Rattle.paper.proofs.Spaces.{length-spaced, getD-spaced}
 
 -- so many bytes of the file from p on, as one number
 unfoldable pub numberAt : List ℕ → ℕ → ℕ → ℕ
@@ -120,15 +118,6 @@ pub words-read : (f : List ℕ) (p : ℕ) (xs : List ℕ) → Stands f p (words 
 words-read f p xs h =
     let n = length-spaced (u16At f) 2 p (length xs) in
     ext-getD 0 _ _ n (λ i l. getD-spaced (u16At f) 2 p (length xs) i (omega arith) ∙ word-is f p xs h i (omega arith))
-
--- Writing undoes reading, past the end of the file too, for there zeros are read.
-pub words-stand : (f : List ℕ) → Bytes f → (p n : ℕ) → Stands f p (words (wordsAt f p n))
-unfolding spaced words u16At
-words-stand f b p zero = stands-empty f p
-words-stand f b p (suc n) =
-    let low : u8At f p < 256 = below-at 256 f (omega arith) b p in
-    let next : p + 2 ≡ p + 1 + 1 = omega arith in
-    stands-cons f p _ _ (omega arith) (stands-cons f (p + 1) _ _ (omega arith) (stands-move f _ next (words-stand f b (p + 2) n)))
 
 pub length-head : (t : Fact) → length (headBytes t) ≡ Records.headSize
 length-head t = length-words (t .scope ∷ t .block ∷ t .limit ∷ [])

@@ -16,13 +16,14 @@ use Rattle.paper.specs.declared.Verdict.the-variants.{Accepted, Refused}
 use Rattle.paper.specs.Answers.{refuse, refuseAt}
 use Rattle.paper.specs.Lists.{some}
 use Rattle.paper.specs.Cases.{Case, size, scopeOf}
-use Rattle.paper.specs.Facts.{nonePrevious, previousOf, badHead, badOrder, badRowAt, leastNode}
+use Rattle.paper.specs.Facts.{badHead, badOrder, badRowAt, leastNode}
 use Rattle.paper.specs.Files.{endAt, trailerOf, badCache, badNumbers, headEnd, factEnd, factPlace, caseOf, readCase}
 use Rattle.paper.specs.Records.{badVersion}
 use Rattle.paper.specs.Rules.{ruleBy, Passes}
 use Rattle.paper.specs.Verdicts.{shapeRules, headRule, orderRule, rowRules}
 use Rattle.paper.specs.Writing.{FileContent, trailerIn, caseIn, fileOf, contentRules, inTurn, laidTurn, laidFacts, layoutVerdict, badLists, badRowsNamed, writtenTurn, writtenFacts, listRules, writeVerdict}
 use Rattle.paper.proofs.Says.{neither}
+use Rattle.paper.proofs.Meaning.{beforeOf}
 use Rattle.paper.proofs.RuleLaws.{past-by, past, never, follow, Hands}
 use Rattle.paper.proofs.VerdictLaws.{hands-layout, hands-shape}
 use Rattle.paper.proofs.LayoutTests.{KeptLayout, tests-kept, layout-on}
@@ -42,11 +43,6 @@ module _ (chain : Verdict → Verdict) (h : Hands chain) where
 
   pub kept-chain : (rest : Verdict) → Passes chain → rest ≡ Accepted → chain rest ≡ Accepted
   kept-chain rest p e = rw (h rest, p) e
-
--- what the fact before fact i is to it
-abbrev pub beforeOf : Case → ℕ → Previous
-beforeOf e zero = nonePrevious
-beforeOf e (suc i) = previousOf e (e .fact i)
 
 module _ (e : Case) where
   -- 12, 13, 15 and 16, for fact i

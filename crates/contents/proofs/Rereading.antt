@@ -17,24 +17,22 @@ use Rattle.paper.specs.Files.{u16At, endAt, trailerOf, badCache, edgesAt, loops
 use Rattle.paper.specs.OneFact.{words, headBytes}
 use Rattle.paper.specs.Writing.{FileContent, perLoop, trailerIn, loopIn, rowsNamed, rowsBefore, factIn, caseIn, loopValues, loopBytes, rowsIn, factBytes, fileOf, wordsAt, rowsAt, loopNumbers, headNumbers, rowNumbers, contentBy, contentOf, layoutVerdict, badRowsNamed, writeVerdict}
 use Rattle.paper.proofs.FactLaws.{head-sound}
+use Rattle.paper.proofs.VerdictLaws.{end-after}
 use Rattle.paper.proofs.SameGraphs.{shape-same}
 use Rattle.paper.proofs.Parts.{Stands, stands-self, stands-left, stands-right, stands-move}
 use Rattle.paper.proofs.Sections.{word-is}
 use Rattle.paper.proofs.LoopSizes.{visits-without}
-use Rattle.contents.proofs.Spaced.{each-rises, parts-all, length-spaced, sum-all, sum-times, each-same}
+use Rattle.paper.proofs.Spaces.{length-spaced}
+use Rattle.paper.proofs.Meaning.{beforeOf}
+use Rattle.contents.proofs.Spaced.{each-rises, parts-all, sum-all, sum-times, each-same}
 use Rattle.contents.proofs.Standing.{stands-at}
 use Rattle.contents.proofs.Fields.{record-is, words-read, length-head}
 use Rattle.contents.proofs.LoopRecords.{loop-fitting, loop-is, loop-record, loop-part}
 use Rattle.contents.proofs.Trailers.{trailer-read, letters-read, offsets-read}
-use Rattle.contents.proofs.Kept.{beforeOf, KeptContent, LaidFact, LaidFile, laid-layout, Writable, write-writable}
+use Rattle.contents.proofs.Kept.{KeptContent, LaidFact, LaidFile, laid-layout, Writable, write-writable}
 use Rattle.contents.proofs.SameCases.{SameCase, content-same}
 use Rattle.contents.proofs.Contents.{content-case}
 use Rattle.contents.proofs.Written.{Whole, lists-whole, loops-length, fact-length, edges-part, loops-part, facts-part, file-length, trailer-part}
-
--- a fact's rows come after its head
-end-after : (f : List ℕ) (t : Trailer) (p : ℕ) → p + 6 ≤ factEnd f t p
-unfolding factEnd
-end-after f t p = omega arith
 
 module _ (c : FileContent) where
   abbrev f : List ℕ

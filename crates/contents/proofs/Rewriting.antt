@@ -18,14 +18,16 @@ use Rattle.paper.specs.OneFact.{words, headBytes}
 use Rattle.paper.specs.Writing.{FileContent, perLoop, loopIn, rowsBefore, caseIn, recordBytes, loopValues, loopBytes, trailerBytes, rowsIn, factBytes, fileOf, wordsAt, rowsAt, rowNumbers, contentBy, contentOf, layoutVerdict, badRowsNamed, writeVerdict}
 use Rattle.paper.proofs.LayoutTests.{offsets-at}
 use Rattle.paper.proofs.SameGraphs.{shape-same}
-use Rattle.paper.proofs.Parts.{Stands, stands-move}
-use Rattle.paper.proofs.Sections.{length-words}
-use Rattle.contents.proofs.Spaced.{length-spaced, getD-spaced, sum-all, length-each, each-same}
-use Rattle.contents.proofs.Standing.{stands-whole, stands-both, stands-each}
-use Rattle.contents.proofs.Fields.{record-stands, record-taken, words-stand, length-head}
+use Rattle.paper.proofs.Parts.{Stands, stands-move, stands-whole, stands-both}
+use Rattle.paper.proofs.Sections.{length-words, words-stand}
+use Rattle.paper.proofs.Spaces.{length-spaced, getD-spaced}
+use Rattle.paper.proofs.Meaning.{beforeOf}
+use Rattle.contents.proofs.Spaced.{sum-all, length-each, each-same}
+use Rattle.contents.proofs.Standing.{stands-each}
+use Rattle.contents.proofs.Fields.{record-stands, record-taken, length-head}
 use Rattle.contents.proofs.LoopRecords.{loop-length, loop-record}
 use Rattle.contents.proofs.Trailers.{trailer-stands}
-use Rattle.contents.proofs.Kept.{beforeOf, KeptContent, LaidFile, layout-laid, Writable, writable-write}
+use Rattle.contents.proofs.Kept.{KeptContent, LaidFile, layout-laid, Writable, writable-write}
 use Rattle.contents.proofs.SameCases.{same-back, size-same, content-same}
 use Rattle.contents.proofs.Written.{lists-whole, file-length}
 use Rattle.contents.proofs.Contents.{content-trailer, content-rows, content-lists, content-loop, content-case, head-number, row-number}

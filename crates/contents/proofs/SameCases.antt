@@ -8,7 +8,8 @@ use Rattle.paper.specs.Facts.{badHead, badOrder}
 use Rattle.paper.proofs.FactLaws.{head-sound}
 use Rattle.paper.proofs.SameGraphs.{SameGraph}
 use Rattle.paper.proofs.SameFacts.{SameFact, head-same, scope-same, rows-same}
-use Rattle.contents.proofs.Kept.{beforeOf, KeptContent}
+use Rattle.paper.proofs.Meaning.{beforeOf}
+use Rattle.contents.proofs.Kept.{KeptContent}
 
 -- the same graph and the same facts, fact i by its first `rows i` rows
 pub record SameCase (rows : ℕ → ℕ) (e d : Case) : Type 0 where

@@ -4,40 +4,19 @@ use native.Mathlib.Omega.{arith}
 use native.Mathlib.Decide.{ℕ-discrete}
 use native.Mathlib.Nat.{mul-suc, mul-zero, mul-add}
 use mathlib.Core.Path.{_≡_, refl, sym, _∙_, ap}
-use mathlib.Core.List.{List, _∷_, _++_}
+use mathlib.Core.List.{List}
 use lib.ListN.{length, getD, length-append}
 use lib.Seq.{ext-getD}
 use Rattle.paper.specs.Lists.{sumTo, each, spaced, part}
+use Rattle.paper.proofs.Spaces.{length-spaced, getD-spaced, spaced-append}
 
 -- what is said n times
 module _ (g : ℕ → ℕ) (d : ℕ) where
-  pub length-spaced : (p n : ℕ) → length (spaced g d p n) ≡ n
-  unfolding spaced
-  length-spaced p zero = refl
-  length-spaced p (suc n) = ap suc (length-spaced (p + d) n)
-
-  pub getD-spaced : (p n i : ℕ) → i < n → getD (spaced g d p n) i 0 ≡ g (p + d * i)
-  unfolding spaced
-  getD-spaced p zero i h = absurd (omega arith)
-  getD-spaced p (suc n) zero h = ap g (omega (arith, mul-zero d))
-  getD-spaced p (suc n) (suc i) h = getD-spaced (p + d) n i (omega arith) ∙ ap g (omega (arith, mul-suc d i))
-
-  pub spaced-append : (p m n : ℕ) → spaced g d p (m + n) ≡ spaced g d p m ++ spaced g d (p + d * m) n
-  unfolding spaced
-  spaced-append p zero n =
-      let a : 0 + n ≡ n = omega arith in
-      let b : p + d * 0 ≡ p = omega (arith, mul-zero d) in
-      rw (a, b) refl
-  spaced-append p (suc m) n =
-      let a : suc m + n ≡ suc (m + n) = omega arith in
-      let b : p + d * suc m ≡ p + d + d * m = omega (arith, mul-suc d m) in
-      rw (a, b) (ap {B = List ℕ} (λ l. g p ∷ l) (spaced-append (p + d) m n))
-
   -- parts that follow one another, w 0, w 1, … long
   pub each-spaced : (w q : ℕ → ℕ) (p n : ℕ) → ((i : ℕ) → i < n → q i ≡ p + d * sumTo w i) → each (λ i. spaced g d (q i) (w i)) n ≡ spaced g d p (sumTo w n)
   unfolding each spaced sumTo
   each-spaced w q p zero h = refl
-  each-spaced w q p (suc n) h = rw (each-spaced w q p n (λ i l. h i (omega arith)), h n (omega arith), spaced-append p (sumTo w n) (w n)) refl
+  each-spaced w q p (suc n) h = rw (each-spaced w q p n (λ i l. h i (omega arith)), h n (omega arith), spaced-append g d p (sumTo w n) (w n)) refl
 
 pub sum-same : (v w : ℕ → ℕ) (n : ℕ) → ((i : ℕ) → i < n → v i ≡ w i) → sumTo v n ≡ sumTo w n
 unfolding sumTo

@@ -8,7 +8,7 @@ use lib.ListN.{length, getD}
 use lib.Seq.{ext-getD}
 use borrow.Author.Tests.{eq-eqb, eqb-true, le-ltb, not-false}
 use Rattle.paper.specs.declared.Trailer.{Trailer}
-use Rattle.paper.specs.Lists.{some, spaced}
+use Rattle.paper.specs.Lists.{spaced}
 use Rattle.paper.specs.Demands.{Bytes}
 use Rattle.paper.specs.Records as Records
 use Rattle.paper.specs.Files.{u8At, u16At, u32At, endAt, letters, trailerOf, badLetter, badLetters, badOffsets, edgesAt, loopsAt, factsAt}
@@ -17,7 +17,7 @@ use Rattle.paper.proofs.Least.{none-some, some-none}
 use Rattle.paper.proofs.Says.{neither}
 use Rattle.paper.proofs.LayoutTests.{offsets-at}
 use Rattle.paper.proofs.Parts.{Stands, stands-move}
-use Rattle.contents.proofs.Spaced.{length-spaced, getD-spaced}
+use Rattle.paper.proofs.Spaces.{length-spaced, getD-spaced}
 use Rattle.contents.proofs.Fields.{u8-number, u16-number, u32-number, recordAt, record-is, record-stands}
 
 -- the letters and the whole trailer, as the rules 2 and 5 and the case read them

@@ -98,10 +98,12 @@ answers =
     -- four bytes more for W; a version that there is not, before all else; W = 0; three numbers for four
     ∷ (limited 7, 144, 0, 0, 0)
     ∷ (limited 7, 143, 20, 0, 0)
-    ∷ (contentIn 3 3 paperEdges paperLoops paperHeads (oneBlock 6), 140, 2, 0, 0)
+    ∷ (contentIn 3 4 paperEdges paperLoops paperHeads (oneBlock 6), 140, 2, 0, 0)
     ∷ (limited 0, 144, 7, 0, 0)
     ∷ (contentIn withW 1 paperEdges paperLoops paperHeads (oneBlock 6), 144, 4, 0, 0)
-    ∷ (contentWith 3 paperEdges paperLoops paperHeads (oneBlock 6), 140, 3, 0, 0)
+    -- as the tree, and a policy above it
+    ∷ (contentWith 3 paperEdges paperLoops paperHeads (oneBlock 6), 140, 0, 0, 0)
+    ∷ (contentWith 4 paperEdges paperLoops paperHeads (oneBlock 6), 140, 3, 0, 0)
     -- half an edge; rows that no head names
     ∷ (contentWith 1 (0 ∷ 1 ∷ 1 ∷ []) paperLoops paperHeads (oneBlock 6), 140, 4, 0, 0)
     ∷ (factsWith (0 ∷ 5 ∷ 2 ∷ 2 ∷ []) (oneBlock 6), 140, 4, 0, 0)

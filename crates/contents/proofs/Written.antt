@@ -17,7 +17,8 @@ use Rattle.paper.specs.Writing.{FileContent, perLoop, trailerIn, loopIn, rowsNa
 use Rattle.paper.proofs.Says.{neither}
 use Rattle.paper.proofs.Parts.{Stands, stands-self, stands-right, stands-move}
 use Rattle.paper.proofs.Sections.{length-words}
-use Rattle.contents.proofs.Spaced.{length-spaced, sum-all, length-each}
+use Rattle.paper.proofs.Spaces.{length-spaced}
+use Rattle.contents.proofs.Spaced.{sum-all, length-each}
 use Rattle.contents.proofs.Fields.{length-head}
 use Rattle.contents.proofs.LoopRecords.{loop-length}
 use Rattle.contents.proofs.Trailers.{length-trailer}

@@ -13,12 +13,13 @@ use Rattle.paper.specs.declared.BlockAnswer.{BlockAnswer}
 use Rattle.paper.specs.declared.SetAnswer.{SetAnswer}
 use Rattle.paper.specs.declared.WriteAnswer.{WriteAnswer}
 use Rattle.paper.specs.declared.FindAnswer.{FindAnswer}
-use Rattle.paper.specs.Answers.{Told, toldVerdict, toldTrace, toldOutcome, toldBlock, toldSet, toldWrite, toldFind, valueOr, limitOr}
+use Rattle.paper.specs.declared.SalvageAnswer.{SalvageAnswer}
+use Rattle.paper.specs.Answers.{Told, toldVerdict, toldTrace, toldOutcome, toldBlock, toldSet, toldWrite, toldFind, toldSalvage, valueOr, limitOr, secondOr}
 use Rattle.paper.specs.Writing.{FileContent}
 use Rattle.paper.specs.Finding.{FindOutcome, refused, nothing, found}
-use Rattle.paper.proofs.RefusalLaws.{verdict-numbered, trace-numbered, step-numbered, block-numbered, set-numbered, write-numbered, find-numbered}
-use Rattle.bolgverk.specs.Promises.{StepPromise, BlockPromise, SetPromise, TracePromise, CheckPromise, WritePromise, FindPromise}
-use Rattle.exports.specs.Calls.{CheckCall, WriteCall, FindCall, TraceCall, StepCall, BlockCall, SetCall}
+use Rattle.paper.proofs.RefusalLaws.{verdict-numbered, trace-numbered, step-numbered, block-numbered, set-numbered, write-numbered, find-numbered, salvage-numbered}
+use Rattle.bolgverk.specs.Promises.{StepPromise, BlockPromise, SetPromise, TracePromise, CheckPromise, WritePromise, FindPromise, SalvagePromise}
+use Rattle.exports.specs.Calls.{CheckCall, WriteCall, FindCall, SalvageCall, TraceCall, StepCall, BlockCall, SetCall}
 
 -- an answer that tells what the paper's does
 refused-as : (low : ℕ) (t t′ : Told) → t ≡ t′ → (t′ .values ≡ none → low ≤ t′ .number) → t .values ≡ none → low ≤ t .number
@@ -72,6 +73,13 @@ module _ (file : List ℕ) (scope block : ℕ) (lent : List ℕ) (before r least
       FindCall file scope block lent before r least at after
   find-call v p n l a =
       record { answer = v; promise = p; number = n; limit = l; place = a; refused = λ h. number-as 1 r _ n (outcome-numbered file scope block lent (toldFind v) after (p .outcome) h) }
+
+module _ (file out list : List ℕ) (before beforeToo r size many at : ℕ) (after listAfter : List ℕ) where
+  pub salvage-call : (v : SalvageAnswer) → SalvagePromise file out list v after listAfter → r ≡ toldSalvage v .number → size ≡ valueOr before (toldSalvage v) →
+      many ≡ secondOr beforeToo (toldSalvage v) → at ≡ toldSalvage v .place → SalvageCall file out list before beforeToo r size many at after listAfter
+  salvage-call v p n l c a =
+      let k = refused-as 1 _ _ (p .told) (salvage-numbered file (length out) (length list) .refused) in
+      record { answer = v; promise = p; number = n; length = l; count = c; place = a; refused = λ h. number-as 1 r _ n (k h) }
 
 module _ (policy ways sets : ℕ) (blocks lent : List ℕ) (before r counted at : ℕ) (after : List ℕ) where
   pub trace-call : (v : TraceAnswer) → TracePromise policy ways sets blocks lent v after → r ≡ toldTrace v .number → at ≡ toldTrace v .place →

@@ -9,9 +9,10 @@ use Rattle.paper.specs.declared.BlockAnswer.{BlockAnswer}
 use Rattle.paper.specs.declared.SetAnswer.{SetAnswer}
 use Rattle.paper.specs.declared.WriteAnswer.{WriteAnswer}
 use Rattle.paper.specs.declared.FindAnswer.{FindAnswer}
-use Rattle.paper.specs.Answers.{toldVerdict, toldTrace, toldOutcome, toldBlock, toldSet, toldWrite, toldFind, valueOr, limitOr}
-use Rattle.bolgverk.proofs.Determined.{step-determined, block-determined, set-determined, trace-determined, check-determined, write-determined, find-determined}
-use Rattle.exports.specs.Calls.{CheckCall, WriteCall, FindCall, TraceCall, StepCall, BlockCall, SetCall}
+use Rattle.paper.specs.declared.SalvageAnswer.{SalvageAnswer}
+use Rattle.paper.specs.Answers.{toldVerdict, toldTrace, toldOutcome, toldBlock, toldSet, toldWrite, toldFind, toldSalvage, valueOr, limitOr, secondOr}
+use Rattle.bolgverk.proofs.Determined.{step-determined, block-determined, set-determined, trace-determined, check-determined, write-determined, find-determined, salvage-determined}
+use Rattle.exports.specs.Calls.{CheckCall, WriteCall, FindCall, SalvageCall, TraceCall, StepCall, BlockCall, SetCall}
 
 -- two results that are the same function of answers that are the same
 same : {A B : Type 0} (f : A → B) {v v′ : A} {x x′ : B} → v ≡ v′ → x ≡ f v → x′ ≡ f v′ → x ≡ x′
@@ -49,6 +50,20 @@ module _ (file : List ℕ) (scope block : ℕ) (lent : List ℕ) (before r r′ 
         same (λ (v : FindAnswer). limitOr before (toldFind v)) (e .0) (p .limit) (q .limit),
         same (λ (v : FindAnswer). toldFind v .place) (e .0) (p .place) (q .place),
         e .1,
+      )
+
+module _ (file out list : List ℕ) (before beforeToo r r′ size size′ many many′ at at′ : ℕ) (after after′ listAfter listAfter′ : List ℕ) where
+  pub salvage-call-determined : SalvageCall file out list before beforeToo r size many at after listAfter →
+      SalvageCall file out list before beforeToo r′ size′ many′ at′ after′ listAfter′ →
+      (r ≡ r′) × (size ≡ size′) × (many ≡ many′) × (at ≡ at′) × (after ≡ after′) × (listAfter ≡ listAfter′)
+  salvage-call-determined p q =
+      let e = salvage-determined file out list _ _ _ _ _ _ (p .promise) (q .promise) in (
+        same (λ (v : SalvageAnswer). toldSalvage v .number) (e .0) (p .number) (q .number),
+        same (λ (v : SalvageAnswer). valueOr before (toldSalvage v)) (e .0) (p .length) (q .length),
+        same (λ (v : SalvageAnswer). secondOr beforeToo (toldSalvage v)) (e .0) (p .count) (q .count),
+        same (λ (v : SalvageAnswer). toldSalvage v .place) (e .0) (p .place) (q .place),
+        e .1,
+        e .2,
       )
 
 module _ (policy ways sets : ℕ) (blocks lent : List ℕ) (before r r′ counted counted′ at at′ : ℕ) (after after′ : List ℕ) where

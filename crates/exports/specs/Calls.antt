@@ -12,10 +12,11 @@ use Rattle.paper.specs.declared.BlockAnswer.{BlockAnswer}
 use Rattle.paper.specs.declared.SetAnswer.{SetAnswer}
 use Rattle.paper.specs.declared.WriteAnswer.{WriteAnswer}
 use Rattle.paper.specs.declared.FindAnswer.{FindAnswer}
-use Rattle.paper.specs.Answers.{toldVerdict, toldTrace, toldOutcome, toldBlock, toldSet, toldWrite, toldFind, valueOr, limitOr}
+use Rattle.paper.specs.declared.SalvageAnswer.{SalvageAnswer}
+use Rattle.paper.specs.Answers.{toldVerdict, toldTrace, toldOutcome, toldBlock, toldSet, toldWrite, toldFind, toldSalvage, valueOr, limitOr, secondOr}
 use Rattle.paper.specs.Files.{readCase}
 use Rattle.paper.specs.Demands.{Holds}
-use Rattle.bolgverk.specs.Promises.{StepPromise, BlockPromise, SetPromise, TracePromise, CheckPromise, WritePromise, FindPromise}
+use Rattle.bolgverk.specs.Promises.{StepPromise, BlockPromise, SetPromise, TracePromise, CheckPromise, WritePromise, FindPromise, SalvagePromise}
 
 -- The refusal's number, or 0; its places, or 0; the lent numbers afterwards. `holds`: demand 3's bounds, where 0 is returned; its other half is in the promise.
 pub record CheckCall (file lent : List ℕ) (r at within : ℕ) (after : List ℕ) : Type 0 where
@@ -45,6 +46,16 @@ pub record FindCall (file : List ℕ) (scope block : ℕ) (lent : List ℕ) (bef
   pub limit : least ≡ limitOr before (toldFind answer)
   pub place : at ≡ toldFind answer .place
   pub refused : toldFind answer .values ≡ none → 1 ≤ r
+
+-- The refusal's number, or 0; its place, or 0; how long the rest is and how many facts were dropped; the lent bytes and the lent list afterwards.
+pub record SalvageCall (file out list : List ℕ) (before beforeToo r size many at : ℕ) (after listAfter : List ℕ) : Type 0 where
+  pub answer : SalvageAnswer
+  pub promise : SalvagePromise file out list answer after listAfter
+  pub number : r ≡ toldSalvage answer .number
+  pub length : size ≡ valueOr before (toldSalvage answer)
+  pub count : many ≡ secondOr beforeToo (toldSalvage answer)
+  pub place : at ≡ toldSalvage answer .place
+  pub refused : toldSalvage answer .values ≡ none → 1 ≤ r
 
 pub record TraceCall (policy ways sets : ℕ) (blocks lent : List ℕ) (before r counted at : ℕ) (after : List ℕ) : Type 0 where
   pub answer : TraceAnswer

@@ -1,6 +1,6 @@
 // The public operations under C names. include/bolgverk.h says the same to a C compiler.
 // A slice passes as a pointer and a length, a number to be written as a pointer. No function has a `requires`.
-ghost use Rattle.exports.specs.Calls.{CheckCall, WriteCall, FindCall, TraceCall, StepCall, BlockCall, SetCall};
+ghost use Rattle.exports.specs.Calls.{CheckCall, WriteCall, FindCall, SalvageCall, TraceCall, StepCall, BlockCall, SetCall};
 use paper::Address;
 use paper::Block;
 use paper::SetState;
@@ -65,6 +65,21 @@ pub extern "C" fn bolgverk_find(
     ensures { λ r. ⌜ FindCall (now (file .entry)) scope block (now (rows .entry)) (now (limit .entry)) r (now (limit .exit)) (now (place .exit)) (now (rows .exit)) ⌝ }
 {
     telling::find(bolgverk::find(file, scope, block, rows), limit, place)
+}
+
+// The refusal's number, or 0; `place` gets the refusal's place, or 0; `length` and `count` get how long the rest is and how many facts were dropped, where nothing is refused.
+#[no_mangle]
+pub extern "C" fn bolgverk_salvage(
+    file: &[u8],
+    out: &mut [u8],
+    dropped: &mut [u64],
+    length: &mut u64,
+    count: &mut u64,
+    place: &mut u64,
+) -> u8
+    ensures { λ r. ⌜ SalvageCall (now (file .entry)) (now (out .entry)) (now (dropped .entry)) (now (length .entry)) (now (count .entry)) r (now (length .exit)) (now (count .exit)) (now (place .exit)) (now (out .exit)) (now (dropped .exit)) ⌝ }
+{
+    telling::salvage(bolgverk::salvage(file, out, dropped), length, count, place)
 }
 
 // The refusal's number, or 0; `place` gets the refusal's place, or 0; `misses` is written where nothing is refused.

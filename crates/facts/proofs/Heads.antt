@@ -25,6 +25,17 @@ use Rattle.evidence.specs.Stands.{scopeAt, Stands}
 use Rattle.facts.specs.declared.Names.{Names}
 use Rattle.facts.specs.Turns.{namesAt}
 
+-- a scope that is a loop or the whole graph is a range of nodes
+pub range-fits :
+    (f : List ℕ) (trailer : Trailer) (w : ℕ) → (w ≢ none → w < trailer .loops) → Laid f trailer → Shaped (caseOf f trailer) →
+    let s = rangeOf (trailer .nodes) (loopAt f trailer) w in (s .first ≤ s .last) × (s .last < trailer .nodes)
+unfolding rangeOf caseOf
+range-fits f trailer w named laid shape =
+    elim (ℕ-discrete w none) [
+      | yes k ↦ rw (eq-eqb w none k) (omega (arith, laid .nodes-low))
+      | no k ↦ rw (ne-eqb w none k) (let fit = shape .fits w (named k) in (fit .0, fit .1))
+    ]
+
 module _ (f : List ℕ) (trailer : Trailer) (p : ℕ) (n : Names) (x : n ≡ namesAt f p) where
   -- 12 at the fact's place
   pub head-is : wrongHead (trailer .loops) (trailer .ways) (n .scope) (n .block) (n .limit) ≡ badHead (caseOf f trailer) (factAt f p)
@@ -48,19 +59,11 @@ module _ (f : List ℕ) (trailer : Trailer) (p : ℕ) (n : Names) (x : n ≡ nam
         let s : n .scope ≡ factAt f p .scope = ap (λ (n : Names). n .scope) x in
         omega (arith, head-sound (caseOf f trailer) (factAt f p) e .scope (λ k. q (s ∙ k)))
 
-    fits-at : Laid f trailer → Shaped (caseOf f trailer) → let s = rangeOf (trailer .nodes) (loopAt f trailer) (n .scope) in (s .first ≤ s .last) × (s .last < trailer .nodes)
-    unfolding rangeOf caseOf
-    fits-at laid shape =
-        elim (ℕ-discrete (n .scope) none) [
-          | yes k ↦ rw (eq-eqb (n .scope) none k) (omega (arith, laid .nodes-low))
-          | no k ↦ rw (ne-eqb (n .scope) none k) (let w = shape .fits (n .scope) (named k) in (w .0, w .1))
-        ]
-
     pub stands :
         (s : Loop) → s ≡ rangeOf (trailer .nodes) (loopAt f trailer) (n .scope) → Laid f trailer → Shaped (caseOf f trailer) → (h : ℕ) → h ≡ n .block % trailer .sets →
         Stands f trailer (record { place = p; first = s .first; last = s .last; block = n .block; limit = n .limit; home = h })
     stands s a laid shape h o =
-        let k = subst (λ (s : Loop). (s .first ≤ s .last) × (s .last < trailer .nodes)) (sym a) (fits-at laid shape) in
+        let k = subst (λ (s : Loop). (s .first ≤ s .last) × (s .last < trailer .nodes)) (sym a) (range-fits f trailer (n .scope) named laid shape) in
         record {
           first = ap (λ (s : Loop). s .first) (scope-is s a);
           last = ap (λ (s : Loop). s .last) (scope-is s a);

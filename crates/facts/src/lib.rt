@@ -54,11 +54,18 @@ pub fn names_at(file: &[u8], trailer: Trailer, p: usize) -> Names
     }
 }
 
+// "16-bit loop number or 65,535 for the whole graph": w is neither.
+pub fn wrong_scope(trailer: Trailer, w: u16) -> bool
+    ensures { λ r. ⌜ r ≡ Facts.wrongScope (trailer .loops) w ⌝ }
+{
+    (trailer.loops <= w) & (w != 65535)
+}
+
 // 12: "its loop number, block or l out of range"
 pub fn wrong_head(trailer: Trailer, w: u16, b: u16, l: u16) -> bool
     ensures { λ r. ⌜ r ≡ Facts.wrongHead (trailer .loops) (trailer .ways) w b l ⌝ }
 {
-    ((trailer.loops <= w) & (w != 65535)) | ((b == 65535) | ((l < 1) | ((trailer.ways as u16) < l)))
+    wrong_scope(trailer, w) | ((b == 65535) | ((l < 1) | ((trailer.ways as u16) < l)))
 }
 
 // 13: "block below the previous fact's, or equal and its scope starts at or before the previous scope's last node"

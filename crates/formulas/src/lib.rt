@@ -56,6 +56,19 @@ fn nmru_bound(k: u64, l: u64, e: u64, n: u64) -> u64
     lesser(n, l * e)
 }
 
+// "A fact whose limit is at most 1 + log2 k has bound E"; "a larger limit gets N": l is at most 1 + log2 k where 2^l is below 4k.
+fn tree_bound(k: u64, l: u64, e: u64, n: u64) -> u64
+    requires { ⌜ l ≤ k ⌝ }
+    requires { ⌜ k ≤ 8 ⌝ }
+    ensures { λ r. ⌜ r ≡ Bounds.treeBound k l e n ⌝ }
+{
+    if l < 2 {
+        return e;
+    }
+    let two: u64 = 1 << l;
+    if two < 4 * k { e } else { n }
+}
+
 // "bound of a fact", by policy; for LRU it is E.
 pub fn bound_of(policy: u8, k: u64, l: u64, e: u64, n: u64) -> u64
     requires { ⌜ l ≤ k ⌝ }
@@ -70,7 +83,10 @@ pub fn bound_of(policy: u8, k: u64, l: u64, e: u64, n: u64) -> u64
     if policy == paper::FIFO {
         return fifo_bound(k, l, e, n);
     }
-    nmru_bound(k, l, e, n)
+    if policy == paper::NMRU {
+        return nmru_bound(k, l, e, n);
+    }
+    tree_bound(k, l, e, n)
 }
 
 // "floor(k·M(l)/(k-l+1))"

@@ -19,6 +19,8 @@ use Rattle.paper.specs.declared.WriteAnswer.{WriteAnswer}
 use Rattle.paper.specs.declared.WriteAnswer.the-variants as WriteAnswers
 use Rattle.paper.specs.declared.FindAnswer.{FindAnswer}
 use Rattle.paper.specs.declared.FindAnswer.the-variants as FindAnswers
+use Rattle.paper.specs.declared.SalvageAnswer.{SalvageAnswer}
+use Rattle.paper.specs.declared.SalvageAnswer.the-variants as SalvageAnswers
 use Rattle.paper.specs.declared.Verdict.{Verdict}
 use Rattle.paper.specs.declared.Verdict.the-variants as Verdicts
 use Rattle.paper.specs.Answers.{refuse, toldFind}
@@ -29,7 +31,9 @@ use Rattle.paper.specs.Traces.{Run, traceRun}
 use Rattle.paper.specs.Verdicts.{verdict, lentAfter}
 use Rattle.paper.specs.Writing.{FileContent, writeVerdict, writeAnswer, outAfter}
 use Rattle.paper.specs.Finding.{FindOutcome}
+use Rattle.paper.specs.Salvaging.{salvaged, droppedList, salvageVerdict, salvageAnswer, lentBy}
 use Rattle.frames.specs.declared.Head.{Head}
+use Rattle.frames.specs.declared.SalvageHead.{SalvageHead}
 use Rattle.frames.specs.Little.{little, littles, u16s, u32s, u64s}
 use Rattle.frames.specs.Places as Places
 
@@ -83,6 +87,11 @@ findHead (FindAnswers.Found l) = found l
 findHead FindAnswers.None = found 0
 findHead (FindAnswers.Refused r) = refusedWith r 0
 
+-- "the rest's length u64, the number of dropped facts u64 (refused: 0 and 0)"
+abbrev pub salvageHead : SalvageAnswer → SalvageHead
+salvageHead (SalvageAnswers.Salvaged s) = record { head = found (s .length); count = s .dropped }
+salvageHead (SalvageAnswers.Refused r) = record { head = refusedWith r 0; count = 0 }
+
 abbrev pub stepOf : Outcome → List ℕ → ℕ → StepAnswer
 stepOf outcome lines bits = record { state = record { lines = lines; bits = bits }; outcome = outcome }
 
@@ -119,6 +128,24 @@ writeFrame w = front 6 Places.lengthWidth (writeHead (w .answer)) ++ w .after
 -- "…; the m numbers of lent memory afterwards, u16 each"
 abbrev pub findFrame : FindAnswer → List ℕ → List ℕ
 findFrame a rows = front 7 Places.limitWidth (findHead a) ++ littles 2 rows
+
+-- What a salvage answers and leaves in the bytes and in the numbers that it was lent.
+pub record SalvageLeft : Type 0 where
+  pub answer : SalvageAnswer
+  pub out : List ℕ
+  pub list : List ℕ
+
+unfoldable pub salvageLeft : List ℕ → List ℕ → List ℕ → SalvageLeft
+salvageLeft file out list =
+    let v = salvageVerdict file (length out) (length list) in
+    record { answer = salvageAnswer file v; out = lentBy (salvaged file) out v; list = lentBy (droppedList file) list v }
+
+unfoldable pub salvageFront : SalvageHead → List ℕ
+salvageFront h = front 8 Places.lengthWidth (h .head) ++ little Places.countWidth (h .count)
+
+-- "…; the m bytes of lent memory afterwards, of which the first are the rest; the d numbers of lent memory afterwards, u64 each"
+abbrev pub salvageFrame : SalvageLeft → List ℕ
+salvageFrame s = salvageFront (salvageHead (s .answer)) ++ (s .out ++ littles 8 (s .list))
 
 -- What is asked for by the bytes of a request: r are those of its arguments, and lent is the lent memory as it is handed in.
 module _ (r : List ℕ) where
@@ -166,6 +193,13 @@ module _ (r : List ℕ) where
     -- A finder's answer and the rows that it leaves are promised by a relation: these two are what is asked for. (They are the only two: `find-asked-once` in crates/answers.)
     abbrev pub FindAsked : FindAnswer → List ℕ → Type 0
     FindAsked answer after = FindOutcome fileSearched (u16At r 0) (u16At r Places.findBlock) rowsLent (toldFind answer) after
+
+    -- "file bytes n u32, lent bytes m u32, numbers d u32, then n bytes, then m bytes, then d numbers u64 each"
+    unfoldable pub salvageAsked : SalvageLeft
+    salvageAsked =
+        let rest = drop (u32At r 0) lent in
+        let m = u32At r Places.salvageOut in
+        salvageLeft file (take m rest) (u64s (drop m rest) (u32At r Places.salvageNumbers))
 
   -- Where each list of a writer begins in its lent memory, and where the lent bytes do: after all that stands before.
   abbrev pub edgesFrom : ℕ
@@ -227,7 +261,8 @@ argumentBytes operation =
     (cond (eqb operation 3) (sizeOf Places.setFields)
     (cond (eqb operation 4) (sizeOf Places.traceFields)
     (cond (eqb operation 5) (sizeOf Places.checkFields)
-    (cond (eqb operation 6) (sizeOf Places.writeFields) (cond (eqb operation 7) (sizeOf Places.findFields) 0))))))
+    (cond (eqb operation 6) (sizeOf Places.writeFields)
+    (cond (eqb operation 7) (sizeOf Places.findFields) (cond (eqb operation 8) (sizeOf Places.salvageFields) 0)))))))
 
 -- "the byte 0, then one byte that says why, then the number of frames answered before it, u64"
 unfoldable pub lastFrame : ℕ → ℕ → List ℕ

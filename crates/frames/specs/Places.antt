@@ -14,7 +14,7 @@ linesWidth = 8 * bits16
 abbrev pub headSize : ℕ
 headSize = sizeOf (bits8 ∷ bits8 ∷ bits64 ∷ bits64 ∷ [])
 
--- what follows it first: "0 for a hit, 1 for a miss, 2 for a refusal, u8", "the block u16", "the set u8", "the misses u64", "the file's length u64", "the limit u16"
+-- what follows it first: "0 for a hit, 1 for a miss, 2 for a refusal, u8", "the block u16", "the set u8", "the misses u64", "the file's length u64", "the limit u16", "the rest's length u64 and the number of dropped facts u64"
 abbrev pub outcomeWidth : ℕ
 outcomeWidth = bits8
 
@@ -32,6 +32,9 @@ lengthWidth = bits64
 
 abbrev pub limitWidth : ℕ
 limitWidth = bits16
+
+abbrev pub countWidth : ℕ
+countWidth = bits64
 
 -- A step's answer is the longest without lent memory. The lent memory stands after room for it.
 abbrev pub lentAt : ℕ
@@ -137,6 +140,16 @@ findFile = offset findFields 2
 
 abbrev pub findNumbers : ℕ
 findNumbers = offset findFields 3
+
+-- "file bytes n u32, lent bytes m u32, numbers d u32"
+abbrev pub salvageFields : List ℕ
+salvageFields = bits32 ∷ bits32 ∷ bits32 ∷ []
+
+abbrev pub salvageOut : ℕ
+salvageOut = offset salvageFields 1
+
+abbrev pub salvageNumbers : ℕ
+salvageNumbers = offset salvageFields 2
 
 -- A writer's arguments take most.
 abbrev pub argumentsRoom : ℕ

@@ -27,6 +27,10 @@ heads = 2048
 abbrev pub found : ℕ
 found = 16384
 
+-- "A salvage has at most 1,048,576 bytes in its file, 1,048,576 lent bytes and 4,096 numbers"
+abbrev pub salvage : ℕ
+salvage = 1048576
+
 -- "a file has at most 4,300,000 bytes": a check's lent memory takes most.
 abbrev pub bytes : ℕ
 bytes = lentAt + 4300000 + 8 * numbers

@@ -1,9 +1,11 @@
 // What the head of each operation's answer says: nothing refused and a value, or the refusal.
 use crate::Head;
+use crate::SalvageHead;
 use paper::BlockAnswer;
 use paper::FindAnswer;
 use paper::Outcome;
 use paper::Refusal;
+use paper::SalvageAnswer;
 use paper::SetAnswer;
 use paper::TraceAnswer;
 use paper::Verdict;
@@ -91,5 +93,20 @@ pub fn find(answer: FindAnswer) -> Head
         FindAnswer::Found(limit) => found(limit as u64),
         FindAnswer::None => found(0),
         FindAnswer::Refused(r) => refused(r, 0),
+    }
+}
+
+pub fn salvage(answer: SalvageAnswer) -> SalvageHead
+    ensures { λ r. ⌜ r ≡ Frames.salvageHead answer ⌝ }
+{
+    match answer {
+        SalvageAnswer::Salvaged(rest) => SalvageHead {
+            head: found(rest.length as u64),
+            count: rest.dropped as u64,
+        },
+        SalvageAnswer::Refused(r) => SalvageHead {
+            head: refused(r, 0),
+            count: 0,
+        },
     }
 }

@@ -3,7 +3,7 @@
 // An answer's head: the operation, the refusal's number, its two places.
 pub const HEAD_SIZE: usize = 18;
 
-// What follows the head first: a step's outcome, a block, a set, the misses of a trace, a file's length, a limit.
+// What follows the head first: a step's outcome, a block, a set, the misses of a trace, a file's length, a limit; of a salvage the length of the rest and the number of dropped facts.
 pub const OUTCOME_WIDTH: usize = 1;
 
 pub const BLOCK_WIDTH: usize = 2;
@@ -15,6 +15,8 @@ pub const MISSES_WIDTH: usize = 8;
 pub const LENGTH_WIDTH: usize = 8;
 
 pub const LIMIT_WIDTH: usize = 2;
+
+pub const COUNT_WIDTH: usize = 8;
 
 // A step's answer, with eight lines and bits, is the longest without lent memory. The lent memory stands after room for it.
 pub const LENT_AT: usize = HEAD_SIZE + OUTCOME_WIDTH + 16 + 1;
@@ -29,6 +31,8 @@ pub const TRACE_AT: usize = LENT_AT - HEAD_SIZE - MISSES_WIDTH;
 pub const CHECK_AT: usize = LENT_AT - HEAD_SIZE;
 
 pub const FIND_AT: usize = LENT_AT - HEAD_SIZE - LIMIT_WIDTH;
+
+pub const SALVAGE_AT: usize = LENT_AT - HEAD_SIZE - LENGTH_WIDTH - COUNT_WIDTH;
 
 // "the byte 0, then one byte that says why, then the number of frames answered before it, u64"
 pub const LAST_SIZE: usize = 10;
@@ -47,6 +51,8 @@ pub const CHECK_SIZE: usize = 8;
 pub const WRITE_SIZE: usize = 28;
 
 pub const FIND_SIZE: usize = 12;
+
+pub const SALVAGE_SIZE: usize = 12;
 
 pub const ARGUMENTS_ROOM: usize = WRITE_SIZE;
 
@@ -96,3 +102,7 @@ pub const FIND_BLOCK: usize = 2;
 pub const FIND_FILE: usize = 4;
 
 pub const FIND_NUMBERS: usize = 8;
+
+pub const SALVAGE_OUT: usize = 4;
+
+pub const SALVAGE_NUMBERS: usize = 8;

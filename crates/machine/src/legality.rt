@@ -1,4 +1,4 @@
-// "A state is legal if no block stands in two lines, the lines from k on are empty, and the bits are 0 for LRU and FIFO; for NMRU the bits from k on are 0 and at least one of the low k is 0."
+// "A state is legal if no block stands in two lines, the lines from k on are empty, and the bits are 0 for LRU and FIFO; for NMRU the bits from k on are 0 and at least one of the low k is 0." The tree's "legal state has bits 0 from k-1 on."
 ghost use mathlib.Core.Path.{_≡_};
 ghost use Prim.Native.Nat.{_≤_};
 ghost use lib.ListN.{drop};

@@ -32,6 +32,9 @@ fn take_step(policy: u8, k: usize, state: SetState, block: Block) -> Stepped
     if policy == paper::FIFO {
         return state.fifo(k, block, paper::kept_from(k));
     }
+    if policy == paper::TREE {
+        return trees::step_alone(state, k, block);
+    }
     let line = state.line(k, block);
     if k == 8 {
         return next::step_of_eight(state, block, line);

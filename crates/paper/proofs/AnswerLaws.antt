@@ -18,7 +18,13 @@ use Rattle.paper.specs.declared.WriteAnswer.{WriteAnswer}
 use Rattle.paper.specs.declared.WriteAnswer.the-variants as WriteAnswers
 use Rattle.paper.specs.declared.FindAnswer.{FindAnswer}
 use Rattle.paper.specs.declared.FindAnswer.the-variants as FindAnswers
-use Rattle.paper.specs.Answers.{refuseAt, Told, toldVerdict, toldTrace, toldOutcome, toldBlock, toldSet, toldWrite, toldFind}
+use Rattle.paper.specs.declared.SalvageAnswer.{SalvageAnswer}
+use Rattle.paper.specs.declared.SalvageAnswer.the-variants as SalvageAnswers
+use Rattle.paper.specs.Answers.{refuseAt, Told, toldVerdict, toldTrace, toldOutcome, toldBlock, toldSet, toldWrite, toldFind, toldSalvage}
+
+-- answers that tell the same are the same, where each is got back
+same-by : {A : Type 0} (answer : Told → A) (told : A → Told) → ((r : A) → answer (told r) ≡ r) → (r r′ : A) → told r ≡ told r′ → r ≡ r′
+same-by answer told back r r′ e = sym (back r) ∙ ap answer e ∙ back r′
 
 -- The way back from what is told: a refusal, no value, a value.
 module _ {A : Type 0} (refused : Refusal → A) (plain : A) (valued : ℕ → A) where
@@ -30,9 +36,8 @@ module _ {A : Type 0} (refused : Refusal → A) (plain : A) (valued : ℕ → A)
   abbrev answer : Told → A
   answer t = from (refuseAt (t .number) (t .place) (t .second)) (t .values)
 
-  -- answers that tell the same are the same, since each is got back
   same : (told : A → Told) → ((r : A) → answer (told r) ≡ r) → (r r′ : A) → told r ≡ told r′ → r ≡ r′
-  same told back r r′ e = sym (back r) ∙ ap answer e ∙ back r′
+  same told = same-by answer told
 
 verdict-back : (v : Verdict) → answer Verdicts.Refused Verdicts.Accepted (λ n. Verdicts.Accepted) (toldVerdict v) ≡ v
 verdict-back Verdicts.Accepted = refl
@@ -74,6 +79,23 @@ find-back (FindAnswers.Found l) = refl
 find-back FindAnswers.None = refl
 find-back (FindAnswers.Refused r) = refl
 
+-- two values
+abbrev salvage : ℕ → ℕ → SalvageAnswer
+salvage n m = SalvageAnswers.Salvaged (record { length = n; dropped = m })
+
+abbrev salvageFrom : Refusal → Option (List ℕ) → SalvageAnswer
+salvageFrom r none = SalvageAnswers.Refused r
+salvageFrom r (some []) = salvage 0 0
+salvageFrom r (some (n ∷ [])) = salvage n 0
+salvageFrom r (some (n ∷ m ∷ rest)) = salvage n m
+
+abbrev salvageAnswer : Told → SalvageAnswer
+salvageAnswer t = salvageFrom (refuseAt (t .number) (t .place) (t .second)) (t .values)
+
+salvage-back : (v : SalvageAnswer) → salvageAnswer (toldSalvage v) ≡ v
+salvage-back (SalvageAnswers.Salvaged s) = refl
+salvage-back (SalvageAnswers.Refused r) = refl
+
 pub same-verdict : (v v′ : Verdict) → toldVerdict v ≡ toldVerdict v′ → v ≡ v′
 same-verdict = same _ _ _ toldVerdict verdict-back
 
@@ -94,3 +116,6 @@ same-write = same _ _ _ toldWrite write-back
 
 pub same-find : (v v′ : FindAnswer) → toldFind v ≡ toldFind v′ → v ≡ v′
 same-find = same _ _ _ toldFind find-back
+
+pub same-salvage : (v v′ : SalvageAnswer) → toldSalvage v ≡ toldSalvage v′ → v ≡ v′
+same-salvage = same-by salvageAnswer toldSalvage salvage-back

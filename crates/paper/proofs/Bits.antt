@@ -42,11 +42,11 @@ bit-own : (j : ℕ) → bitAt (2 ^ j) j ≡ 1
 unfolding bitAt
 bit-own j = ap (λ (n : ℕ). n % 2) (div-self (pow-pos j))
 
-bit-or : (a b i : ℕ) → bitAt (bitOr a b) i ≡ bitOr (bitAt a i) (bitAt b i)
+pub bit-or : (a b i : ℕ) → bitAt (bitOr a b) i ≡ bitOr (bitAt a i) (bitAt b i)
 unfolding bitAt
 bit-or a b i = ap (λ (n : ℕ). n % 2) (or-shr a b i) ∙ or-mod (a / 2 ^ i) (b / 2 ^ i) 1
 
-or-one : (a : ℕ) → a ≤ 1 → bitOr a 1 ≡ 1
+pub or-one : (a : ℕ) → a ≤ 1 → bitOr a 1 ≡ 1
 or-one zero h = refl
 or-one (suc a) h = let e : a ≡ 0 = omega arith in rw e
 
@@ -63,7 +63,7 @@ all-ones zero m h = omega arith
 all-ones (suc k) m h =
     omega (arith, pow-suc 2 k, sym (bit-zero m) ∙ h 0 (omega arith), all-ones k (m / 2) (λ i l. sym (bit-suc m i) ∙ h (suc i) (omega arith)))
 
-full-ones : (k m i : ℕ) → suc m ≡ 2 ^ k → i < k → bitAt m i ≡ 1
+pub full-ones : (k m i : ℕ) → suc m ≡ 2 ^ k → i < k → bitAt m i ≡ 1
 full-ones zero m i h l = absurd (omega arith)
 full-ones (suc k) m zero h l = bit-zero m ∙ omega (arith, pow-suc 2 k)
 full-ones (suc k) m (suc i) h l = bit-suc m i ∙ full-ones k (m / 2) i (omega (arith, pow-suc 2 k)) (omega arith)

@@ -4,8 +4,10 @@ pub mod Says
 pub mod Sums
 pub mod TableLaws
 pub mod Bits
-pub mod States
+pub mod TreeLaws
 pub mod PolicyLaws
+pub mod BoundLaws
+pub mod States
 pub mod Meaning
 pub mod RuleLaws
 pub mod Before
@@ -29,11 +31,13 @@ pub mod Masks
 pub mod MoveLaws
 pub mod StepLaws
 pub mod Parts
-pub mod Sections
 pub mod Widths
+pub mod Spaces
+pub mod Sections
 pub mod SameGraphs
 pub mod SameFacts
 pub mod AnswerLaws
 pub mod SecondPlaces
 pub mod RefusalLaws
+pub mod SalvageLaws
 pub mod Homes

@@ -100,8 +100,17 @@ module _ (k : ℕ) (l : List ℕ) (b j : ℕ) (fits : k ≤ length l) (e : j ≡
   unfolding lineOr
   or-other d h = rw (hit-no h)
 
+-- the value of that line's bit
+pub or-bit : (k : ℕ) (l : List ℕ) (b j : ℕ) → cond (hits k l b) (2 ^ lineOf (take k l) b) (2 ^ j) ≡ 2 ^ lineOr k l b j
+unfolding lineOr
+or-bit k l b j = go (hits k l b)
+  where
+    go : (t : Bool) → cond t (2 ^ lineOf (take k l) b) (2 ^ j) ≡ 2 ^ cond t (lineOf (take k l) b) j
+    go true = refl
+    go false = refl
+
 -- the line is one of the k where the other is
-or-low : (k : ℕ) (l : List ℕ) (b j : ℕ) → j < k → lineOr k l b j < k
+pub or-low : (k : ℕ) (l : List ℕ) (b j : ℕ) → j < k → lineOr k l b j < k
 unfolding lineOr hits
 or-low k l b j h = go (ltb (lineOf (take k l) b) k) refl
   where

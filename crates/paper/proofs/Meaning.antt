@@ -1,14 +1,15 @@
 -- What the tests of the rules say, as propositions: of the graph, of a row, of an edge, of a fact, of a case. The theory speaks of these alone.
-use Prim.Native.Nat.{ℕ, suc, _≤_, _<_}
+use Prim.Native.Nat.{ℕ, zero, suc, _≤_, _<_}
 use mathlib.Core.Path.{_≡_}
 use mathlib.Core.Logic.{_≢_}
-use mathlib.Core.Bool.{true}
+use mathlib.Core.Bool.{true, false}
 use Rattle.paper.specs.declared.Loop.{Loop}
+use Rattle.paper.specs.declared.Previous.{Previous}
 use Rattle.paper.specs.Machines.{none, inRange}
 use Rattle.paper.specs.Cases.{Row, Fact, Case, scopeOf, rowOf}
 use Rattle.paper.specs.Graphs.{count}
 use Rattle.paper.specs.Walks.{Edge, Reaches}
-use Rattle.paper.specs.Facts.{held}
+use Rattle.paper.specs.Facts.{held, nonePrevious, previousOf, badOrder}
 use Rattle.paper.specs.Demands.{Other}
 
 -- the node is in the loop
@@ -80,3 +81,12 @@ pub record Sound (e : Case) : Type 0 where
   pub nodes : 1 ≤ e .nodes
   pub graph : SoundGraph e
   pub facts : (i : ℕ) → i < e .facts → SoundFact e (e .fact i)
+
+-- what the fact before fact i is to it
+abbrev pub beforeOf : Case → ℕ → Previous
+beforeOf e zero = nonePrevious
+beforeOf e (suc i) = previousOf e (e .fact i)
+
+-- Rule 13, for each fact.
+abbrev pub Ordered : Case → Type 0
+Ordered e = (i : ℕ) → i < e .facts → badOrder e (beforeOf e i) (e .fact i) ≡ false

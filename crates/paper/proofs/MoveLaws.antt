@@ -1,10 +1,10 @@
 -- The steps of the three machines, from what the parts of the code give: the weight of b's line, the shifted lines, the new bits.
-use Prim.Native.Nat.{ℕ, suc, _+_, _-_, _^_, _<_, _≤_, min}
+use Prim.Native.Nat.{ℕ, suc, _+_, _-_, _%_, _^_, _<_, _≤_, min}
 use native.Mathlib.Decide.{decLt}
 use native.Mathlib.Omega.{arith}
-use mathlib.Core.Path.{_≡_, refl, sym, _∙_, ap}
+use mathlib.Core.Path.{_≡_, refl, sym, _∙_, ap, ap₂}
 use mathlib.Core.Logic.{_≢_}
-use mathlib.Core.Bool.{true, false}
+use mathlib.Core.Bool.{Bool, true, false, cond}
 use mathlib.Core.List.{List}
 use lib.ListN.{length, getD, take, drop, set}
 use lib.Dec.{ltb}
@@ -18,7 +18,7 @@ use Rattle.lines.specs.Lines.{weightOf, weighed, keptAfter, movedBy, replacedBy
 use Rattle.paper.specs.Shifts.{keptFrom, Bit, markedBy, lineFor}
 use Rattle.paper.proofs.Says.{says-true, both}
 use Rattle.paper.proofs.States.{Offered, legal-few, says-legal, says-distinct, says-empty, line-at}
-use Rattle.paper.proofs.LineLaws.{weighed-walk, line-take, line-hit, hit-yes, hit-no, nmru-low, weighed-none, weighed-found, weight-bit, replaced-set, moved-pushed, kept-none, kept-line}
+use Rattle.paper.proofs.LineLaws.{weighed-walk, line-take, line-hit, hit-yes, hit-no, nmru-low, weighed-none, weighed-found, weight-bit, replaced-set, moved-pushed, kept-none, kept-line, or-bit}
 
 -- what a step on the lines asks for, of a legal state
 module _ (p k : ℕ) (s : SetState) (l : legal p k s ≡ true) where
@@ -29,7 +29,10 @@ module _ (p k : ℕ) (s : SetState) (l : legal p k s ≡ true) where
       record { low = o .least; high = o .most; beyond = both (empty (drop k (s .lines))) _ (d .1) .0; apart = d .0 }
 
   pub nmru-bits : p ≡ 2 → s .bits + 1 < 2 ^ k
-  nmru-bits e = omega (arith, legal-few p k (s .bits) (omega arith) (says-true (says-legal p k s) l .bits))
+  nmru-bits e = omega (arith, legal-few p k (s .bits) e (says-true (says-legal p k s) l .bits))
+
+  pub tree-bits : p ≡ 3 → s .bits < 2 ^ (k - 1)
+  tree-bits e = says-true (says-legal p k s) l .bits .low (omega arith)
 
 -- the lines from k on are empty, so a block that stands in a line stands in one of the k
 among : (k : ℕ) (l : List ℕ) (b : ℕ) → Ready k l → b ≢ none → lineOf l b < length l → lineOf l b < k
@@ -89,51 +92,64 @@ module _ (k : ℕ) (l : List ℕ) (n b w : ℕ) (r : Ready k l) (c : b ≢ none)
   unfolding weightOf
   line-low h = omega (arith, hit-line h .0)
 
-  pub nmru-stands : 0 < w → (record { bit = 255 - w; hit = true }) ≡ lineFor k (stateOf l n) b
-  unfolding lineFor nmruLine lineOr
-  nmru-stands h =
+  -- a block that stands in a line stands in one of the k, whose bit its weight tells; a block that is not found stands in none of them
+  pub found-hit : (m : ℕ) → 0 < w → (255 - w ≡ cond (hits k l b) (2 ^ lineOf (take k l) b) m) × (true ≡ hits k l b)
+  found-hit m h =
       let y = hit-line h in
       let z : 255 - w ≡ 2 ^ lineOf l b = omega (arith, y .0, weight-bit (lineOf l b) (omega (arith, r .high)) .1) in
-      rw (hit-yes k l b _ fits refl (y .1), ← line-hit k l b _ fits refl (y .1), z)
+      (rw (hit-yes k l b _ fits refl (y .1), ← line-hit k l b _ fits refl (y .1)) z, sym (hit-yes k l b _ fits refl (y .1)))
 
-  pub nmru-absent : (m : ℕ) → w ≤ 0 → m ≡ 2 ^ missLine k (stateOf l n) → (record { bit = m; hit = false }) ≡ lineFor k (stateOf l n) b
-  unfolding lineFor nmruLine lineOr
-  nmru-absent m h g = rw (hit-no k l b _ fits refl (omega (arith, r .high, miss-line h)), g)
+  pub found-miss : (m : ℕ) → w ≤ 0 → (m ≡ cond (hits k l b) (2 ^ lineOf (take k l) b) m) × (false ≡ hits k l b)
+  found-miss m h =
+      let y : hits k l b ≡ false = hit-no k l b _ fits refl (omega (arith, r .high, miss-line h)) in
+      (rw y, sym y)
+
+-- a guess that is right is the line's bit
+pub guess-right : (g w : ℕ) → w ≡ 255 - g % 255 → (0 < w) × (g % 255 ≡ 255 - w)
+guess-right g w e = (omega arith, omega arith)
+
+-- a line by its bit and whether the block stands there
+abbrev lineBy : ℕ → Bool → Line
+lineBy m hit = record { bit = m; hit = hit }
+
+-- the line of an NMRU access
+pub nmru-line :
+    (k : ℕ) (s : SetState) (b m : ℕ) (t : Line)
+    → m ≡ 2 ^ missLine k s → t .bit ≡ cond (hits k (s .lines) b) (2 ^ lineOf (take k (s .lines)) b) m → t .hit ≡ hits k (s .lines) b → t ≡ lineFor k s b
+unfolding lineFor nmruLine
+nmru-line k s b m t e f h =
+    ap₂ lineBy (f ∙ ap (λ (x : ℕ). cond (hits k (s .lines) b) (2 ^ lineOf (take k (s .lines)) b) x) e ∙ or-bit k (s .lines) b (missLine k s)) h
+
+-- the block comes to the line that it is told: where it stands there already nothing moves
+module _ (k : ℕ) (l : List ℕ) (b : ℕ) (r : Ready k l) (e : length l ≡ 8) (t : Line) (f : t .hit ≡ hits k l b) (j q : ℕ) where
+  same-line : hits k l b ≡ true → set l (lineOr k l b j) b ≡ l
+  unfolding lineOr hits
+  same-line h =
+      let i = lineOf (take k l) b in
+      let y : i < k = ltb-true i k h in
+      let p : lineOf l b ≡ i = omega (arith, line-take k l b (omega (arith, r .high))) in
+      rw h (ap (λ (x : ℕ). set l i x) (sym (line-at l b 0 (omega (arith, r .high))) ∙ ap (λ (n : ℕ). getD l n 0) p) ∙ set-getD l i 0)
+
+  pub placed-hit : t .hit ≡ true → steppedOf l q true ≡ steppedOf (set l (lineOr k l b j) b) q (t .hit)
+  placed-hit h = ap₂ (λ (x : List ℕ) (y : Bool). steppedOf x q y) (sym (same-line (sym f ∙ h))) (sym h)
+
+  pub placed-miss : t .hit ≡ false → t .bit ≡ 2 ^ lineOr k l b j → steppedOf (replacedBy l (t .bit) b) q false ≡ steppedOf (set l (lineOr k l b j) b) q (t .hit)
+  placed-miss h g = ap₂ (λ (x : List ℕ) (y : Bool). steppedOf x q y) (replaced-set l (t .bit) (lineOr k l b j) b e g) (sym h)
 
 -- an NMRU step at the access's line
-module _ (k : ℕ) (l : List ℕ) (n b : ℕ) (r : Ready k l) (few : n + 1 < 2 ^ k) (e : length l ≡ 8) where
-  module _ (t : Line) (f : t ≡ lineFor k (stateOf l n) b) where
-    bit-is : t .bit ≡ 2 ^ nmruLine k (stateOf l n) b
-    unfolding lineFor
-    bit-is = ap (λ (x : Line). x .bit) f
+module _ (k : ℕ) (s : SetState) (b : ℕ) (few : s .bits + 1 < 2 ^ k) (t : Line) (f : t ≡ lineFor k s b) where
+  pub bit-is : t .bit ≡ 2 ^ lineOr k (s .lines) b (missLine k s)
+  unfolding lineFor nmruLine
+  bit-is = ap (λ (x : Line). x .bit) f
 
-    hit-is : t .hit ≡ hits k l b
-    unfolding lineFor
-    hit-is = ap (λ (x : Line). x .hit) f
+  pub hit-is : t .hit ≡ hits k (s .lines) b
+  unfolding lineFor
+  hit-is = ap (λ (x : Line). x .hit) f
 
-    pub line-bit : Bit k (t .bit)
-    line-bit = record { at = nmruLine k (stateOf l n) b; low = nmru-low k (stateOf l n) b few; is = bit-is }
+  pub line-bit : Bit k (t .bit)
+  unfolding nmruLine
+  line-bit = record { at = nmruLine k s b; low = nmru-low k s b few; is = bit-is }
 
-    bits-are : (q : ℕ) → q ≡ markedBy k n (t .bit) → q ≡ marked k n (nmruLine k (stateOf l n) b)
-    unfolding markedBy marked
-    bits-are q g = g ∙ ap (markedBy k n) bit-is
-
-    same-line : hits k l b ≡ true → set l (nmruLine k (stateOf l n) b) b ≡ l
-    unfolding nmruLine lineOr hits
-    same-line h =
-        let j = lineOf (take k l) b in
-        let y : j < k = ltb-true j k h in
-        let p : lineOf l b ≡ j = omega (arith, line-take k l b (omega (arith, r .high))) in
-        rw h (ap (λ (x : ℕ). set l j x) (sym (line-at l b 0 (omega (arith, r .high))) ∙ ap (λ (i : ℕ). getD l i 0) p) ∙ set-getD l j 0)
-
-    pub nmru-hit : (q : ℕ) → t .hit ≡ true → q ≡ markedBy k n (t .bit) → steppedOf l q true ≡ nmruStep k (stateOf l n) b
-    unfolding nmruStep
-    nmru-hit q h g =
-        let y : hits k l b ≡ true = sym hit-is ∙ h in
-        rw (y, same-line y, bits-are q g)
-
-    pub nmru-miss : (q : ℕ) → t .hit ≡ false → q ≡ markedBy k n (t .bit) → steppedOf (replacedBy l (t .bit) b) q false ≡ nmruStep k (stateOf l n) b
-    unfolding nmruStep
-    nmru-miss q h g =
-        let y : hits k l b ≡ false = sym hit-is ∙ h in
-        rw (y, replaced-set l (t .bit) (nmruLine k (stateOf l n) b) b e bit-is, bits-are q g)
+  pub nmru-took : (q : ℕ) → q ≡ markedBy k (s .bits) (t .bit) → steppedOf (set (s .lines) (lineOr k (s .lines) b (missLine k s)) b) q (t .hit) ≡ nmruStep k s b
+  unfolding nmruStep nmruLine markedBy marked
+  nmru-took q g = ap₂ (steppedOf (set (s .lines) (lineOr k (s .lines) b (missLine k s)) b)) (g ∙ ap (markedBy k (s .bits)) bit-is) hit-is

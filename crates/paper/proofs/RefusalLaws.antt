@@ -19,7 +19,7 @@ use Rattle.paper.specs.declared.Verdict.the-variants.{Accepted, Refused}
 use Rattle.paper.specs.declared.Outcome.the-variants.{Hit, Miss}
 use Rattle.paper.specs.declared.BlockAnswer.the-variants as BlockAnswers
 use Rattle.paper.specs.declared.SetAnswer.the-variants as SetAnswers
-use Rattle.paper.specs.Answers.{refuseAt, refuse, tells, Told, toldVerdict, toldTrace, toldOutcome, toldBlock, toldSet, toldWrite}
+use Rattle.paper.specs.Answers.{refuseAt, refuse, tells, Told, toldVerdict, toldTrace, toldOutcome, toldBlock, toldSet, toldWrite, toldSalvage}
 use Rattle.paper.specs.Lists.{least, some}
 use Rattle.paper.specs.Machines.{emptySet, step, offered, setCount, legal, inRange}
 use Rattle.paper.specs.Operations.{refusedStep, stepAnswer, lineSize, blockAnswer, setAnswer}
@@ -33,6 +33,7 @@ use Rattle.paper.specs.Verdicts.{layoutRules, shapeRules, pathRules, cou
 use Rattle.paper.specs.Finding.{sought, rowsLength, soughtRules, findVerdict}
 use Rattle.paper.specs.Records.{badVersion}
 use Rattle.paper.specs.Writing.{FileContent, trailerIn, caseIn, fileOf, contentRules, inTurn, badLists, badRowsNamed, writtenTurn, writtenFacts, listRules, writeVerdict, writeAnswer}
+use Rattle.paper.specs.Salvaging.{salvaged, droppedList, salvageVerdict, salvageAnswer}
 
 -- the refusals that have a second place: 16, 17, 18, 24 and 25
 abbrev pub OfEvidence : ℕ → Type 0
@@ -134,6 +135,18 @@ find-numbered f scope block room =
     let e = readCase f in
     let t = sought e scope block in
     whole-numbered f _ (one 11 0 (badHead e t) (one 13 0 (unfetched e t) (one 19 0 (ltb room (rowsLength e t)) (plain 1 toldVerdict Accepted [] refl))))
+
+-- the salvager's refusals
+module _ (f : List ℕ) where
+  salvaged-numbered : (v : Verdict) → Numbered 1 toldVerdict v → Numbered 1 toldSalvage (salvageAnswer f v)
+  salvaged-numbered Accepted h = plain 1 toldSalvage (salvageAnswer f Accepted) _ refl
+  salvaged-numbered (Refused r) h = record { refused = h .refused; second = h .second }
+
+  pub salvage-numbered : (room listRoom : ℕ) → Numbered 1 toldSalvage (salvageAnswer f (salvageVerdict f room listRoom))
+  unfolding salvageVerdict
+  salvage-numbered room listRoom =
+      salvaged-numbered _
+      (whole-numbered f _ (one 19 0 (ltb room (length (salvaged f)) || ltb listRoom (length (droppedList f))) (plain 1 toldVerdict Accepted [] refl)))
 
 -- the writer's refusals
 module _ (c : FileContent) where

@@ -4,9 +4,13 @@ use native.Mathlib.Omega.{arith}
 use mathlib.Core.Path.{_≡_, refl, sym, _∙_, ap}
 use mathlib.Core.List.{List, [], _∷_}
 use lib.ListN.{length, getD}
+use Rattle.paper.specs.Lists.{spaced}
+use Rattle.paper.specs.Demands.{Bytes}
 use Rattle.paper.specs.Files.{u8At, u16At, u32At}
 use Rattle.paper.specs.OneFact.{words}
-use Rattle.paper.proofs.Parts.{Stands}
+use Rattle.paper.specs.Writing.{wordsAt}
+use Rattle.paper.proofs.Parts.{Stands, stands-move, stands-empty, stands-cons}
+use Rattle.paper.proofs.Widths.{below-at}
 
 pub length-words : (xs : List ℕ) → length (words xs) ≡ 2 * length xs
 unfolding words
@@ -45,3 +49,12 @@ module _ (f g : List ℕ) (p q : ℕ) (s : List ℕ) (a : Stands f p s) (b : Sta
       let d : u16At f (p + i + 2) ≡ u16At g (q + i + 2)
       = ap (λ (k : ℕ). u16At f k) (omega arith) ∙ u16-same (i + 2) (omega arith) ∙ ap (λ (k : ℕ). u16At g k) (omega arith) in
       rw (c, d) refl
+
+-- Writing undoes reading, past the end of the file too, for there zeros are read.
+pub words-stand : (f : List ℕ) → Bytes f → (p n : ℕ) → Stands f p (words (wordsAt f p n))
+unfolding spaced words u16At
+words-stand f b p zero = stands-empty f p
+words-stand f b p (suc n) =
+    let low : u8At f p < 256 = below-at 256 f (omega arith) b p in
+    let next : p + 2 ≡ p + 1 + 1 = omega arith in
+    stands-cons f p _ _ (omega arith) (stands-cons f (p + 1) _ _ (omega arith) (stands-move f _ next (words-stand f b (p + 2) n)))

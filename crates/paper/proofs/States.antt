@@ -1,6 +1,6 @@
 -- What the tests on a set's state say: offered, hits, legal. A line past the last counts as empty.
 use Prim.Native.Nat.{ℕ, zero, suc, _+_, _-_, _^_, _<_, _≤_}
-use mathlib.Core.Path.{_≡_, refl, sym, _∙_}
+use mathlib.Core.Path.{_≡_, refl, sym, _∙_, ap}
 use mathlib.Core.Logic.{_≢_}
 use mathlib.Core.Bool.{Bool, true, false, cond, _&&_}
 use mathlib.Core.List.{List, [], _∷_}
@@ -12,42 +12,50 @@ use lib.ListN.{length, getD, take, drop}
 use lib.Pow.{pow-pos}
 use lib.Seq.{getD-take, getD-drop, length-take-le}
 use Rattle.paper.specs.declared.SetState.{SetState}
-use Rattle.paper.specs.Policies.{waysFrom}
-use Rattle.paper.specs.Machines.{none, emptySet, lineOf, hits, lineOr, missLine, offered, setCount, inRange, stands, distinct, empty, legalBits, legal, bitAt, victim}
-use Rattle.paper.proofs.Says.{Says, holds, fails, says-lt, says-le, says-and, says-as, says-is, says-true}
+use Rattle.paper.specs.Policies.{waysFrom, treeWays, tree, partsOf}
+use Rattle.paper.specs.Machines.{none, emptySet, lineOf, hits, lineOr, missLine, offered, setCount, inRange, stands, distinct, empty, legalBits, legal, bitAt, victim, treeVictim, treeLine}
+use Rattle.paper.proofs.Says.{Says, holds, fails, says-lt, says-le, says-eq, says-and, says-or, says-as, says-is, says-true}
 use Rattle.paper.proofs.Bits.{victim-ones, victim-low, victim-zero, few-bits}
+use Rattle.paper.proofs.TreeLaws.{TreeWays, tree-range}
+use Rattle.paper.proofs.PolicyLaws.{by-policy}
 
--- "A set has k ways (LRU, FIFO 1 to 8; NMRU 2 to 8)"
+-- "with 2, 4 or 8 ways"
+pub says-tree-ways : (k : ℕ) → Says (TreeWays k) (treeWays k)
+says-tree-ways k = says-or (says-eq k 2) (says-or (says-eq k 4) (says-eq k 8))
+
+-- "A set has k ways (LRU, FIFO 1 to 8; NMRU 2 to 8)"; the tree 2, 4 or 8
 pub record Offered (policy k : ℕ) : Type 0 where
-  pub known : policy ≤ 2
+  pub known : policy ≤ 3
   pub most : k ≤ 8
   pub least : 1 ≤ k
   pub two : policy ≡ 2 → 2 ≤ k
+  pub tree : policy ≡ 3 → TreeWays k
 
 pub says-offered : (policy k : ℕ) → Says (Offered policy k) (offered policy k)
 unfolding offered
 says-offered policy k =
-    elim (ℕ-discrete policy 0) [
-      | yes z ↦ rw (eq-eqb policy 0) (from-one (omega arith))
-      | no n ↦
-          rw (ne-eqb policy 0)
-          (elim (ℕ-discrete policy 1) [
-            | yes z ↦ rw (eq-eqb policy 1) (from-one (omega arith))
-            | no m ↦
-                rw (ne-eqb policy 1)
-                (says-as
-                (λ h. record { known = h .0; most = h .1 .0; least = omega (arith, h .1 .1); two = λ p. h .1 .1 })
-                (λ o. (o .known, (o .most, o .two (omega (arith, o .known)))))
-                (says-and (says-le policy 2) (says-and (says-le k 8) (says-le 2 k))))
-          ])
-    ]
+    by-policy (λ P. Says (Offered policy k) (leb policy 3 && P .ways k)) policy
+    (λ e. from-one (omega arith))
+    (λ e. from-one (omega arith))
+    (λ e.
+    says-as
+    (λ h. record { known = h .0; most = h .1 .0; least = omega (arith, h .1 .1); two = λ p. h .1 .1; tree = λ p. absurd (omega arith) })
+    (λ o. (o .known, (o .most, o .two e)))
+    (says-and (says-le policy 3) (says-and (says-le k 8) (says-le 2 k))))
+    (λ e.
+    says-as
+    (λ h.
+    let r = tree-range k (h .1) in
+    record { known = h .0; most = r .1; least = omega (arith, r .0); two = λ p. r .0; tree = λ p. h .1 })
+    (λ o. (o .known, o .tree (omega (arith, o .known))))
+    (says-and (says-le policy 3) (says-tree-ways k)))
   where
-    from-one : policy ≢ 2 → Says (Offered policy k) (leb policy 2 && waysFrom 1 k)
+    from-one : policy < 2 → Says (Offered policy k) (leb policy 3 && waysFrom 1 k)
     from-one n =
         says-as
-        (λ h. record { known = h .0; most = h .1 .0; least = h .1 .1; two = λ p. absurd (n p) })
+        (λ h. record { known = h .0; most = h .1 .0; least = h .1 .1; two = λ p. absurd (omega arith); tree = λ p. absurd (omega arith) })
         (λ o. (o .known, (o .most, o .least)))
-        (says-and (says-le policy 2) (says-and (says-le k 8) (says-le 1 k)))
+        (says-and (says-le policy 3) (says-and (says-le k 8) (says-le 1 k)))
 
 -- "With S sets (1 to 64)"
 pub says-sets : (sets : ℕ) → Says ((0 < sets) × (sets ≤ 64)) (setCount sets)
@@ -128,46 +136,57 @@ says-empty (x ∷ l) =
     more e h zero = e
     more e h (suc i) = h i
 
--- "the bits are 0 for LRU and FIFO; for NMRU the bits from k on are 0 and at least one of the low k is 0". A policy above NMRU's 2 does not occur.
+-- "the bits are 0 for LRU and FIFO; for NMRU the bits from k on are 0 and at least one of the low k is 0"; the tree's "legal state has bits 0 from k-1 on". A policy above its 3 does not occur.
 pub record LegalBits (policy k bits : ℕ) : Type 0 where
   pub zeros : policy < 2 → bits ≡ 0
-  pub few : 2 ≤ policy → bits < 2 ^ k
-  pub free : 2 ≤ policy → (i : ℕ) × (i < k) × (bitAt bits i ≡ 0)
+  pub few : policy ≡ 2 → bits < 2 ^ k
+  pub free : policy ≡ 2 → (i : ℕ) × (i < k) × (bitAt bits i ≡ 0)
+  pub low : 3 ≤ policy → bits < 2 ^ (k - 1)
 
 -- for NMRU that is one test, as the definition has it
-pub few-legal : (policy k bits : ℕ) → 2 ≤ policy → bits < 2 ^ k - 1 → LegalBits policy k bits
+few-legal : (policy k bits : ℕ) → policy ≡ 2 → bits < 2 ^ k - 1 → LegalBits policy k bits
 few-legal policy k bits e h =
     record {
       zeros = λ n. absurd (omega arith);
       few = λ p. omega arith;
       free = λ p. (victim k bits, victim-low k bits h, victim-zero k bits h);
+      low = λ n. absurd (omega arith);
     }
 
-pub legal-few : (policy k bits : ℕ) → 2 ≤ policy → LegalBits policy k bits → bits < 2 ^ k - 1
+pub legal-few : (policy k bits : ℕ) → policy ≡ 2 → LegalBits policy k bits → bits < 2 ^ k - 1
 legal-few policy k bits e b = few-bits k bits (b .free e .0) (b .few e) (b .free e .1) (b .free e .2)
+
+-- and for the tree
+low-legal : (policy k bits : ℕ) → 3 ≤ policy → bits < 2 ^ (k - 1) → LegalBits policy k bits
+low-legal policy k bits e h =
+    record { zeros = λ n. absurd (omega arith); few = λ p. absurd (omega arith); free = λ p. absurd (omega arith); low = λ p. h }
 
 -- and for LRU and FIFO
 says-zero : (policy k bits : ℕ) → policy < 2 → Says (LegalBits policy k bits) (ltb bits 1)
 says-zero policy k bits n =
     says-as
-    (λ h. record { zeros = λ p. omega arith; few = λ e. absurd (omega arith); free = λ e. absurd (omega arith) })
+    (λ h. record { zeros = λ p. omega arith; few = λ e. absurd (omega arith); free = λ e. absurd (omega arith); low = λ e. absurd (omega arith) })
     (λ b. omega (arith, b .zeros n))
     (says-lt bits 1)
 
 says-bits : (policy k bits : ℕ) → Says (LegalBits policy k bits) (legalBits policy k bits)
 unfolding legalBits
 says-bits policy k bits =
-    elim (ℕ-discrete policy 0) [
-      | yes z ↦ rw (eq-eqb policy 0) (says-zero policy k bits (omega arith))
-      | no n ↦
-          rw (ne-eqb policy 0)
-          (elim (ℕ-discrete policy 1) [
-            | yes z ↦ rw (eq-eqb policy 1) (says-zero policy k bits (omega arith))
-            | no m ↦
-                let h : 2 ≤ policy = omega arith in
-                rw (ne-eqb policy 1) (says-as (few-legal policy k bits h) (legal-few policy k bits h) (says-lt bits (2 ^ k - 1)))
-          ])
-    ]
+    by-policy (λ P. Says (LegalBits policy k bits) (ltb bits (P .bits k))) policy
+    (λ e. says-zero policy k bits (omega arith))
+    (λ e. says-zero policy k bits (omega arith))
+    (λ e. says-as (few-legal policy k bits e) (legal-few policy k bits e) (says-lt bits (2 ^ k - 1)))
+    (λ h. says-as (λ l. low-legal policy k bits h (omega (arith, l))) (λ b. omega (arith, b .low h)) (says-lt bits (tree .bits k)))
+
+-- For every policy those below a number are legal, and no others.
+module _ (policy k bits : ℕ) where
+  pub legal-below : LegalBits policy k bits → bits < partsOf policy .bits k
+  unfolding legalBits
+  legal-below b = says-true (says-lt bits (partsOf policy .bits k)) (says-is (says-bits policy k bits) b)
+
+  pub below-legal : bits < partsOf policy .bits k → LegalBits policy k bits
+  unfolding legalBits
+  below-legal l = says-true (says-bits policy k bits) (says-is (says-lt bits (partsOf policy .bits k)) l)
 
 pub record Legal (policy k : ℕ) (s : SetState) : Type 0 where
   pub apart : Distinct (s .lines)
@@ -199,7 +218,7 @@ empty-legal policy k h =
     (record {
       apart = λ i j g e. blank i;
       over = λ i g. blank i;
-      bits = record { zeros = λ n. refl; few = λ e. pow-pos k; free = λ e. (0, h, refl) };
+      bits = record { zeros = λ n. refl; few = λ e. pow-pos k; free = λ e. (0, h, refl); low = λ e. pow-pos (k - 1) };
     })
 
 -- In a legal state "the lowest line whose bit is 0" is among the k, and the definition finds it.
@@ -208,7 +227,7 @@ pub victim-lowest :
     → legal 2 k s ≡ true
     → (victim k (s .bits) < k) × (bitAt (s .bits) (victim k (s .bits)) ≡ 0) × ((i : ℕ) → i < victim k (s .bits) → bitAt (s .bits) i ≡ 1)
 victim-lowest k s h =
-    let few = legal-few 2 k (s .bits) (omega arith) (says-true (says-legal 2 k s) h .bits) in
+    let few = legal-few 2 k (s .bits) refl (says-true (says-legal 2 k s) h .bits) in
     (victim-low k (s .bits) few, victim-zero k (s .bits) few, victim-ones k (s .bits))
 
 -- "the lowest empty line, whatever its bit says", and "bits only when no line is empty": what the definition of a missed block's line says.
@@ -230,3 +249,8 @@ miss-lowest k s h = go (says-lt (lineOf (take k (s .lines)) none) k)
         (sym (getD-take k (s .lines) _ none l) ∙ line-at (take k (s .lines)) none none (omega (arith, length-take-le k (s .lines) h)))
         (λ i g e. omega (arith, before i (omega arith) e))
     go (fails n) = clears (λ i g e. n (omega (arith, before i g e))) refl
+
+-- "A miss follows the bits and takes that line, empty or not."
+pub tree-miss : (k : ℕ) (s : SetState) (b : ℕ) → hits k (s .lines) b ≡ false → treeLine k s b ≡ treeVictim k (s .bits)
+unfolding treeLine lineOr
+tree-miss k s b h = ap (λ (t : Bool). cond t (lineOf (take k (s .lines)) b) (treeVictim k (s .bits))) h

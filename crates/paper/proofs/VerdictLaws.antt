@@ -6,7 +6,8 @@ use mathlib.Core.Path.{_≡_}
 use mathlib.Core.List.{List}
 use lib.ListN.{length}
 use lib.Dec.{ltb}
-use borrow.Author.Tests.{ltb-false, not-false}
+use mathlib.Core.Bool.{false}
+use borrow.Author.Tests.{le-ltb, ltb-false, not-false}
 use Rattle.paper.specs.declared.Refusal.{Refusal}
 use Rattle.paper.specs.declared.Trailer.{Trailer}
 use Rattle.paper.specs.declared.Previous.{Previous}
@@ -16,14 +17,15 @@ use Rattle.paper.specs.Lists.{some}
 use Rattle.paper.specs.Cases.{Fact, Case, size, scopeOf}
 use Rattle.paper.specs.Graphs.{badEdge, badLoop, badEntry, badReturn, dead, badCount}
 use Rattle.paper.specs.Facts.{previousOf, badHead, badOrder, unfetched, badRowAt, badStepAt, badManyAt}
-use Rattle.paper.specs.Files.{endAt, trailerOf, badLetters, badCache, badNumbers, badOffsets, factAt, factEnd, factPlace, caseOf, readCase}
+use Rattle.paper.specs.Files.{endAt, trailerOf, badLetters, badCache, badNumbers, badOffsets, headEnd, factAt, factEnd, factPlace, caseOf, readCase}
 use Rattle.paper.specs.Known.{Laid, Shaped}
+use Rattle.paper.specs.Rules.{Passes}
 use Rattle.paper.specs.Verdicts.{layoutRules, shapeRules, pathRules, countRules, graphRules, headRule, orderRule, fetchRule, rowRules, stepRules, manyRules, evidenceRules, bodyRules, turnRules, turnsFrom, factRules, fileVerdict, verdict}
 use Rattle.paper.proofs.Least.{none-some}
 use Rattle.paper.proofs.RuleLaws.{past, Hands, hands-by, hands-rule, hands-then, accepted-on, refused-on}
-use Rattle.paper.proofs.Meaning.{SoundGraph, SoundFact, Sound}
+use Rattle.paper.proofs.Meaning.{SoundGraph, SoundEvidence, SoundFact, Sound, beforeOf, Ordered}
 use Rattle.paper.proofs.GraphLaws.{shaped, graph-sound}
-use Rattle.paper.proofs.FactLaws.{head-sound, fetched, evidence-kept}
+use Rattle.paper.proofs.FactLaws.{head-sound, fetched, evidence-kept, evidence-law}
 use Rattle.paper.proofs.FileLaws.{laid}
 
 module _ (f : List ℕ) where
@@ -87,46 +89,80 @@ module _ (e : Case) where
       (hands-then _ _ (hands-by _ (some (badStepAt e t) (e .edges))) (hands-by _ (some (badManyAt e t) (size (scopeOf e t)))))
 
 module _ (f : List ℕ) (trailer : Trailer) where
-  -- The fact that stands at p passes its turn.
-  pub record KeptFact (p : ℕ) : Type 0 where
+  -- The fact that stands at p passes its turn after `previous`: 11 to 18, 24 and 25.
+  pub record KeptTurn (previous : Previous) (p : ℕ) : Type 0 where
+    pub head : badHead (caseOf f trailer) (factAt f p) ≡ false
+    pub order : badOrder (caseOf f trailer) previous (factAt f p) ≡ false
+    pub fetched : unfetched (caseOf f trailer) (factAt f p) ≡ false
     pub room : factEnd f trailer p ≤ endAt f
-    pub sound : SoundFact (caseOf f trailer) (factAt f p)
+    pub evidence : SoundEvidence (caseOf f trailer) (factAt f p)
 
-  pub turn-kept : (i : ℕ) (previous : Previous) (p : ℕ) (rest : Verdict) → turnRules f trailer i previous p rest ≡ Accepted → KeptFact p × (rest ≡ Accepted)
+  pub turn-tests : (i : ℕ) (previous : Previous) (p : ℕ) (rest : Verdict) → turnRules f trailer i previous p rest ≡ Accepted → KeptTurn previous p × (rest ≡ Accepted)
   unfolding turnRules headRule orderRule bodyRules fetchRule
-  turn-kept i previous p rest h =
+  turn-tests i previous p rest h =
       let a = past 11 i (ltb (endAt f) (p + 6)) _ h in
       let b = past 12 i (badHead (caseOf f trailer) (factAt f p)) _ (a .1) in
       let c = past 13 i (badOrder (caseOf f trailer) previous (factAt f p)) _ (b .1) in
       let d = past 14 i (unfetched (caseOf f trailer) (factAt f p)) _ (c .1) in
       let g = past 15 i (ltb (endAt f) (factEnd f trailer p)) _ (d .1) in
-      let v = evidence-kept (caseOf f trailer) (factAt f p) i rest (g .1) in (
-        record {
-          room = ltb-false _ _ (g .0);
-          sound =
-              record {
-                head = head-sound (caseOf f trailer) (factAt f p) (b .0);
-                fetched = fetched (caseOf f trailer) (factAt f p) (d .0);
-                evidence = v .0;
-              };
-        },
-        v .1,
-      )
+      let v = evidence-kept (caseOf f trailer) (factAt f p) i rest (g .1) in
+      (record { head = b .0; order = c .0; fetched = d .0; room = ltb-false _ _ (g .0); evidence = v .0 }, v .1)
 
-  pub turns-kept : (n i : ℕ) (previous : Previous) (rest : Verdict) → turnsFrom f trailer n i previous (factPlace f trailer i) rest ≡ Accepted →
-      ((k : ℕ) → i ≤ k → k < i + n → KeptFact (factPlace f trailer k)) × (rest ≡ Accepted)
-  unfolding turnsFrom factPlace
-  turns-kept zero i previous rest h = (λ k l q. absurd (omega arith), h)
-  turns-kept (suc n) i previous rest h =
-      let a = turn-kept i previous (factPlace f trailer i) _ h in
-      let b = turns-kept n (suc i) _ rest (a .1) in (
+  -- a fact's rows come after its head
+  pub end-after : (p : ℕ) → headEnd p ≤ factEnd f trailer p
+  unfolding factEnd
+  end-after p = omega arith
+
+  pub turn-passes : (i : ℕ) (previous : Previous) (p : ℕ) → KeptTurn previous p → Passes (turnRules f trailer i previous p)
+  unfolding turnRules headRule orderRule bodyRules fetchRule
+  turn-passes i previous p k =
+      rw (
+        le-ltb (endAt f) (p + 6) (omega (arith, k .room, end-after p)),
+        k .head,
+        k .order,
+        k .fetched,
+        le-ltb (endAt f) (factEnd f trailer p) (k .room),
+      )
+      (evidence-law (caseOf f trailer) (factAt f p) i .1 (k .evidence))
+
+  -- The fact that stands at p passes its turn, and is sound.
+  pub record KeptFact (p : ℕ) : Type 0 where
+    pub room : factEnd f trailer p ≤ endAt f
+    pub sound : SoundFact (caseOf f trailer) (factAt f p)
+
+  kept-fact : (previous : Previous) (p : ℕ) → KeptTurn previous p → KeptFact p
+  kept-fact previous p k =
+      let e = caseOf f trailer in
+      let t = factAt f p in
+      record { room = k .room; sound = record { head = head-sound e t (k .head); fetched = fetched e t (k .fetched); evidence = k .evidence } }
+
+  pub turn-kept : (i : ℕ) (previous : Previous) (p : ℕ) (rest : Verdict) → turnRules f trailer i previous p rest ≡ Accepted → KeptFact p × (rest ≡ Accepted)
+  turn-kept i previous p rest h = let k = turn-tests i previous p rest h in (kept-fact previous p (k .0), k .1)
+
+  abbrev before : ℕ → Previous
+  before = beforeOf (caseOf f trailer)
+
+  turns-tests : (n i : ℕ) (rest : Verdict) → turnsFrom f trailer n i (before i) (factPlace f trailer i) rest ≡ Accepted →
+      ((k : ℕ) → i ≤ k → k < i + n → KeptTurn (before k) (factPlace f trailer k)) × (rest ≡ Accepted)
+  unfolding turnsFrom factPlace caseOf
+  turns-tests zero i rest h = (λ k l q. absurd (omega arith), h)
+  turns-tests (suc n) i rest h =
+      let a = turn-tests i (before i) (factPlace f trailer i) _ h in
+      let b = turns-tests n (suc i) rest (a .1) in (
         λ k l q. elim (ℕ-discrete k i) [ yes e ↦ rw e (a .0) | no e ↦ b .0 k (omega arith) (omega arith) ],
         b .1,
       )
 
-  pub facts-kept : (rest : Verdict) → factRules f trailer rest ≡ Accepted → (i : ℕ) → i < trailer .facts → KeptFact (factPlace f trailer i)
+  facts-tests : (rest : Verdict) → factRules f trailer rest ≡ Accepted → (i : ℕ) → i < trailer .facts → KeptTurn (before i) (factPlace f trailer i)
   unfolding factRules factPlace
-  facts-kept rest h i l = turns-kept (trailer .facts) 0 _ _ h .0 i (omega arith) (omega arith)
+  facts-tests rest h i l = turns-tests (trailer .facts) 0 _ h .0 i (omega arith) (omega arith)
+
+  pub facts-kept : (rest : Verdict) → factRules f trailer rest ≡ Accepted → (i : ℕ) → i < trailer .facts → KeptFact (factPlace f trailer i)
+  facts-kept rest h i l = kept-fact (before i) (factPlace f trailer i) (facts-tests rest h i l)
+
+  pub facts-ordered : factRules f trailer Accepted ≡ Accepted → Ordered (caseOf f trailer)
+  unfolding caseOf
+  facts-ordered h i l = facts-tests Accepted h i l .order
 
   pub hands-body : (i p : ℕ) → Hands (bodyRules f trailer i p)
   unfolding bodyRules fetchRule
@@ -166,6 +202,9 @@ file-sound f h =
         facts = λ i l. facts-kept f (trailerOf f) Accepted (b .2) i l .sound;
       },
     )
+
+pub file-ordered : (f : List ℕ) → fileVerdict f ≡ Accepted → Ordered (readCase f)
+file-ordered f h = facts-ordered f (trailerOf f) (graph-kept (readCase f) _ (layout-kept f _ h .1) .2)
 
 pub enough : (f : List ℕ) (room : ℕ) → verdict f room ≡ Accepted → fileVerdict f ≡ Accepted
 unfolding verdict

@@ -18,6 +18,8 @@ use Rattle.paper.specs.declared.WriteAnswer.{WriteAnswer}
 use Rattle.paper.specs.declared.WriteAnswer.the-variants as WriteAnswers
 use Rattle.paper.specs.declared.FindAnswer.{FindAnswer}
 use Rattle.paper.specs.declared.FindAnswer.the-variants as FindAnswers
+use Rattle.paper.specs.declared.SalvageAnswer.{SalvageAnswer}
+use Rattle.paper.specs.declared.SalvageAnswer.the-variants as SalvageAnswers
 
 -- "The result gets a second place."
 abbrev pub refuseAt : ℕ → ℕ → ℕ → Refusal
@@ -75,6 +77,11 @@ toldFind (FindAnswers.Found l) = tells (l ∷ [])
 toldFind FindAnswers.None = tells []
 toldFind (FindAnswers.Refused r) = tellsWhy r
 
+-- the length of the rest, and how many facts were dropped; the bytes and the list are in lent memory
+abbrev pub toldSalvage : SalvageAnswer → Told
+toldSalvage (SalvageAnswers.Salvaged s) = tells (s .length ∷ s .dropped ∷ [])
+toldSalvage (SalvageAnswers.Refused r) = tellsWhy r
+
 -- The value told, or `before` where none is: a number that is written only where nothing is refused.
 abbrev pub valueOr : ℕ → Told → ℕ
 valueOr before t = firstOr (t .values)
@@ -91,3 +98,13 @@ limitOr before t = valueOr (noneOr (t .values)) t
     noneOr : Option (List ℕ) → ℕ
     noneOr none = before
     noneOr (some values) = 0
+
+-- The second value told, or `before` where nothing is told.
+abbrev pub secondOr : ℕ → Told → ℕ
+secondOr before t = nextOr (t .values)
+  where
+    nextOr : Option (List ℕ) → ℕ
+    nextOr none = before
+    nextOr (some []) = before
+    nextOr (some (n ∷ [])) = before
+    nextOr (some (n ∷ m ∷ rest)) = m

@@ -8,7 +8,7 @@ use Rattle.paper.specs.Lists.{some, sumTo, lowestTo, table}
 use Rattle.paper.specs.Machines.{none}
 use Rattle.paper.specs.Policies.{partsOf}
 unfoldable pub use Rattle.paper.specs.Policies.{ceil}
-pub use Rattle.paper.specs.Policies.{g, lruBound, fifoBound, nmruBound}
+pub use Rattle.paper.specs.Policies.{g, lruBound, fifoBound, nmruBound, treeBound}
 use Rattle.paper.specs.Cases.{Fact, Case, inside, scopeOf}
 use Rattle.paper.specs.Graphs.{count, entries}
 
@@ -87,7 +87,7 @@ module _ (e : Case) where
   abbrev pub leastFloor : ℕ → ℕ
   leastFloor q = lowestTo (floorAt q) (A q) (e .ways)
 
-  -- "Set bound: for LRU and NMRU, A." "For FIFO, the least of A and" the floors.
+  -- "Set bound: for LRU and NMRU, A." "For FIFO, the least of A and" the floors. For the tree "Set bound: the sum A."
   unfoldable pub setBound : ℕ → ℕ
   setBound q = cond (partsOf (e .policy) .floors) (leastFloor q) (A q)
 

@@ -96,3 +96,14 @@ checkedNumbers =
     ∷ IsListing 0 "total 2\nset 0 2\nfact 0 1\nfact 1 1\n"
     ∷ IsListing 2 "total 2\nset 0 2\nfact 0 1\nfact 1 1\n"
     ∷ []
+
+-- The tree, worked by hand: 1 + log2 k is the last limit with E; a miss takes the line that the bits lead to, though another is empty, and a hit turns its path too; with two ways it is LRU.
+abbrev pub treeNumbers : List Checked
+treeNumbers =
+    IsBound 3 2 2 1 100 1 ∷ IsBound 3 4 3 1 100 1 ∷ IsBound 3 4 4 1 100 100 ∷ IsBound 3 8 4 2 9 2 ∷ IsBound 3 8 5 2 9 9
+    ∷ IsStep 3 4 (10 ∷ none ∷ 12 ∷ 13 ∷ []) 0 20 false (20 ∷ none ∷ 12 ∷ 13 ∷ []) 3
+    ∷ IsStep 3 4 (20 ∷ none ∷ 12 ∷ 13 ∷ []) 3 21 false (20 ∷ none ∷ 21 ∷ 13 ∷ []) 6
+    ∷ IsStep 3 4 (20 ∷ none ∷ 21 ∷ 13 ∷ []) 6 13 true (20 ∷ none ∷ 21 ∷ 13 ∷ []) 2
+    ∷ IsStep 3 8 (10 ∷ 11 ∷ 12 ∷ 13 ∷ 14 ∷ 15 ∷ 16 ∷ 17 ∷ []) 37 20 false (10 ∷ 11 ∷ 12 ∷ 13 ∷ 14 ∷ 15 ∷ 20 ∷ 17 ∷ []) 96
+    ∷ AreNumbers 3 2 2 1 1
+    ∷ []

@@ -15,9 +15,13 @@ held r = cond (ltb (r .number) 8) (r .number) 0
 unfoldable pub holds : Row → ℕ → Bool
 holds r x = some (λ i. eqb (r .slot i) x) (held r)
 
+-- "16-bit loop number or 65,535 for the whole graph": w is neither
+abbrev pub wrongScope : ℕ → ℕ → Bool
+wrongScope loops w = leb loops w && not (eqb w none)
+
 -- 12: "its loop number, block or l out of range", of a head with the loop number w, the block b and the limit l
 unfoldable pub wrongHead : ℕ → ℕ → ℕ → ℕ → ℕ → Bool
-wrongHead loops ways w b l = (leb loops w && not (eqb w none)) || (eqb b none || (ltb l 1 || ltb ways l))
+wrongHead loops ways w b l = wrongScope loops w || (eqb b none || (ltb l 1 || ltb ways l))
 
 -- 13: "block below the previous fact's, or equal and its scope starts at or before the previous scope's last node", of the block b and a scope that starts at `first`
 unfoldable pub wrongOrder : Previous → ℕ → ℕ → Bool

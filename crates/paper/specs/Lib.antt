@@ -1,6 +1,7 @@
 pub mod Answers
 pub mod Lists
 pub mod Steps
+pub mod Trees
 pub mod Policies
 pub mod Machines
 pub mod Operations
@@ -23,6 +24,7 @@ pub mod Listings
 pub mod Demands
 pub mod Writing
 pub mod Finding
+pub mod Salvaging
 pub mod Checked
 pub mod NextBits
 pub mod Patterns

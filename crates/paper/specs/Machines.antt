@@ -9,6 +9,7 @@ use Rattle.paper.specs.declared.Stepped.{Stepped}
 use Rattle.paper.specs.Policies.{lastPolicy, partsOf}
 pub use Rattle.paper.specs.Steps.{none, oneDown}
 unfoldable pub use Rattle.paper.specs.Steps.{lineOf, hits, pushed, lruStep, fifoStep, bitAt, victim, marked, lineOr, missLine, nmruLine, nmruStep}
+unfoldable pub use Rattle.paper.specs.Trees.{levels, treeLimit, treeVictim, turned, treeLine, treeStep}
 
 -- "all sets start empty with bits 0"
 abbrev pub emptySet : SetState
@@ -18,7 +19,7 @@ emptySet = record { lines = replicate 8 none; bits = 0 }
 unfoldable pub step : ℕ → ℕ → SetState → ℕ → Stepped
 step policy k s b = partsOf policy .step k s b
 
--- "A set has k ways": the policy is one of the three, and has so many
+-- "A set has k ways": the policy is one of the four, and has so many
 unfoldable pub offered : ℕ → ℕ → Bool
 offered policy k = leb policy lastPolicy && partsOf policy .ways k
 

@@ -1,4 +1,4 @@
--- The file of one fact: a given file's graph, and a fact with rows. The tool accepts the rows as evidence where it accepts this file.
+-- The file with other facts: a given file's graph, and the bytes of facts; and with one fact and its rows. The tool accepts the rows as evidence where it accepts that file.
 use Prim.Native.Nat.{ℕ, _+_, _/_, _%_}
 use mathlib.Core.List.{List, [], _∷_, _++_}
 use lib.ListN.{take, drop}
@@ -23,6 +23,10 @@ headBytes t = words (t .scope ∷ t .block ∷ t .limit ∷ [])
 abbrev pub trailerWith : List ℕ → ℕ → List ℕ
 trailerWith f n = take factsField (drop (endAt f) f) ++ (words (n ∷ []) ++ drop (factsField + bits16) (drop (endAt f) f))
 
+-- The file with f's graph and n facts, which are these bytes.
+unfoldable pub withFacts : List ℕ → List ℕ → ℕ → List ℕ
+withFacts f facts n = graphBytes f ++ (facts ++ trailerWith f n)
+
 -- The file with f's graph and one fact, t, which has these rows.
 unfoldable pub fileWith : List ℕ → Fact → List ℕ → List ℕ
-fileWith f t rows = graphBytes f ++ (headBytes t ++ (rows ++ trailerWith f 1))
+fileWith f t rows = withFacts f (headBytes t ++ rows) 1

@@ -4,14 +4,14 @@ ghost use Prim.Native.Nat.{_%_, _<_, _≤_};
 ghost use Rattle.paper.specs.Machines as Machines;
 ghost use Rattle.paper.specs.Shifts.{setsOf};
 use crate::Sets;
-use crate::policies::NMRU;
+use crate::policies::TREE;
 use crate::policies::has_ways;
 
-// "A set has k ways": the policy is one of the three, and has so many.
+// "A set has k ways": the policy is one of the four, and has so many.
 pub fn is_offered(policy: u8, ways: u8) -> bool
     ensures { λ r. ⌜ r ≡ Machines.offered policy ways ⌝ }
 {
-    (policy <= NMRU) & has_ways(policy, ways)
+    (policy <= TREE) & has_ways(policy, ways)
 }
 
 // "With S sets (1 to 64)"

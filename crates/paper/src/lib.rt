@@ -28,6 +28,7 @@ pub use methods::shift_of;
 pub use policies::FIFO;
 pub use policies::LRU;
 pub use policies::NMRU;
+pub use policies::TREE;
 pub use policies::bits_below;
 pub use policies::has_floors;
 pub use versions::UNLIMITED;
@@ -122,6 +123,17 @@ pub enum WriteAnswer {
 pub enum FindAnswer {
     Found(u16),
     None,
+    Refused(Refusal),
+}
+
+// "writes the rest, with a list of dropped facts": how many bytes the rest takes, and how many facts were dropped.
+pub struct Salvage {
+    pub length: usize,
+    pub dropped: usize,
+}
+
+pub enum SalvageAnswer {
+    Salvaged(Salvage),
     Refused(Refusal),
 }
 

@@ -1,8 +1,9 @@
 // One step of each machine, by value on the set state: the lines go back shifted or replaced, with hit or miss.
 ghost use mathlib.Core.Path.{_≡_};
 ghost use mathlib.Core.Logic.{_≢_};
-ghost use Prim.Native.Nat.{_+_, _^_, _<_, _≤_};
-ghost use Rattle.paper.specs.Machines.{none, lineOf, victim, missLine, lruStep, fifoStep, nmruStep};
+ghost use Prim.Native.Nat.{ℕ, _+_, _^_, _<_, _≤_};
+ghost use lib.ListN.{set};
+ghost use Rattle.paper.specs.Machines.{none, lineOf, hits, lineOr, victim, missLine, lruStep, fifoStep, nmruStep};
 ghost use Rattle.paper.specs.NextBits.{nextBits};
 ghost use Rattle.paper.specs.Ready.{Ready, stateOf, steppedOf};
 ghost use Rattle.lines.specs.Lines.{weighed};
@@ -207,6 +208,19 @@ impl SetState {
         }
     }
 
+    // The block stands in the line that it is told, or comes there on a miss; the bits after the access are handed over.
+    pub fn placed(self, k: usize, block: Block, line: Line, bits: u8) -> Stepped
+        requires { ⌜ Ready k (self .lines) ⌝ }
+        requires { ⌜ line .hit ≡ hits k (self .lines) (block .0) ⌝ }
+        ensures { λ r. ⌜ ((j : ℕ) → line .bit ≡ 2 ^ lineOr k (self .lines) (block .0) j → r ≡ steppedOf (set (self .lines) (lineOr k (self .lines) (block .0) j) (block .0)) bits (line .hit)) ⌝ }
+    {
+        let lines = self.lines;
+        if line.hit {
+            return stepped(lines, bits, true);
+        }
+        stepped(replaced(lines, line.bit, block.0), bits, false)
+    }
+
     pub fn nmru(self, k: usize, block: Block, line: Line, next: &[u8; 2048]) -> Stepped
         requires { ⌜ Ready k (self .lines) ⌝ }
         requires { ⌜ self .bits + 1 < 2 ^ k ⌝ }
@@ -214,11 +228,6 @@ impl SetState {
         requires { ⌜ now next ≡ nextBits ⌝ }
         ensures { λ r. ⌜ r ≡ nmruStep k self (block .0) ⌝ }
     {
-        let lines = self.lines;
-        let bits = mark(self.bits, k, line.bit, next);
-        if line.hit {
-            return stepped(lines, bits, true);
-        }
-        stepped(replaced(lines, line.bit, block.0), bits, false)
+        self.placed(k, block, line, mark(self.bits, k, line.bit, next))
     }
 }

@@ -1,1 +1,2 @@
 pub mod PatternTexts
+pub mod ShownLaws

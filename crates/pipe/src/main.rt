@@ -1,6 +1,7 @@
 // Every public operation over standard input and output: docs/PIPE.md has the framing. What is answered is made by `answers`; here is what is read, what is written, and in which order.
 mod finds;
 mod requests;
+mod salvages;
 mod writes;
 
 use answers::ACCESSES;
@@ -33,6 +34,7 @@ fn asked(
         5 => requests::check(request, bytes, numbers),
         6 => writes::write(request, bytes, blocks),
         7 => finds::find(request, bytes, blocks),
+        8 => salvages::salvage(request, bytes, numbers),
         _ => Frame::Stopped(1),
     }
 }
@@ -85,7 +87,7 @@ fn converse(bytes: &mut [u8], blocks: &mut [u16], numbers: &mut [u64])
     }
 }
 
-// The room is lent on as lists: for a request's lent memory and what stands before it in the answer, for a trace's blocks or the rows of a writer or a finder, and for a check's numbers.
+// The room is lent on as lists: for a request's lent memory and what stands before it in the answer, for a trace's blocks or the rows of a writer or a finder, and for the numbers of a check or a salvage.
 fn with_room(bytes: &mut [u8; ROOM], blocks: &mut [u16; ACCESSES], numbers: &mut [u64; NUMBERS]) {
     converse(bytes, blocks, numbers);
 }

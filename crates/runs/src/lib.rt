@@ -3,7 +3,7 @@ ghost use mathlib.Core.Path.{_≡_};
 ghost use mathlib.Core.Bool.{not};
 ghost use Prim.Native.Nat.{_≤_};
 ghost use Rattle.paper.specs.Lists as Lists;
-ghost use Rattle.paper.specs.Policies.{lruPolicy, fifoPolicy, nmruPolicy};
+ghost use Rattle.paper.specs.Policies.{lruPolicy, fifoPolicy, nmruPolicy, treePolicy};
 ghost use Rattle.runs.specs.TraceRuns.{Runs, Ran};
 use paper::Block;
 use paper::SetState;
@@ -119,6 +119,47 @@ fn nmru_run(k: usize, sets: u8, blocks: &[u16], marks: &mut [u8]) -> usize
     misses
 }
 
+// As NMRU's run, with the tree's tables in the place of the next bits.
+fn tree_run(k: usize, sets: u8, blocks: &[u16], marks: &mut [u8]) -> usize
+    requires { ⌜ Runs treePolicy k sets (now blocks) (now marks) ⌝ }
+    ensures { λ r. ⌜ Ran treePolicy k sets (now (blocks .entry)) (now (marks .entry)) r (now (marks .exit)) ⌝ }
+{
+    let all = paper::sets_of(sets);
+    let table = trees::misses();
+    let ones = trees::ones();
+    let zeros = trees::zeros();
+    let mut guesses = [0u8; 1024];
+    let mut states = [SetState {
+        lines: [65535u16; 8],
+        bits: 0,
+    }; 64];
+    let mut state = states[0];
+    let mut last: usize = 0;
+    let mut misses: usize = 0;
+    let mut i: usize = 0;
+    while i < blocks.len() {
+        let b = blocks[i];
+        let at = paper::home_in(b, all);
+        if at != last {
+            states[last] = state;
+            state = states[at];
+            last = at;
+        }
+        let place = (b % 1024) as usize;
+        let line = trees::line(state, k, Block(b), guesses[place] % 128 + 1, &table);
+        if !line.hit {
+            guesses[place] = ((line.bit % 256 + 127) % 128) as u8;
+        }
+        let t = trees::step(state, k, Block(b), line, &table, &ones, &zeros);
+        let m = mark_of(t.hit);
+        state = t.state;
+        marks[i] = m;
+        misses += m as usize;
+        i += 1;
+    }
+    misses
+}
+
 // The policy is chosen once, before the first access.
 pub fn run(policy: u8, k: usize, sets: u8, blocks: &[u16], marks: &mut [u8]) -> usize
     requires { ⌜ Runs policy k sets (now blocks) (now marks) ⌝ }
@@ -130,5 +171,8 @@ pub fn run(policy: u8, k: usize, sets: u8, blocks: &[u16], marks: &mut [u8]) -> 
     if policy == paper::FIFO {
         return fifo_run(k, sets, blocks, marks);
     }
-    nmru_run(k, sets, blocks, marks)
+    if policy == paper::NMRU {
+        return nmru_run(k, sets, blocks, marks);
+    }
+    tree_run(k, sets, blocks, marks)
 }

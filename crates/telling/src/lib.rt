@@ -3,12 +3,13 @@
 use paper::BlockAnswer;
 use paper::FindAnswer;
 use paper::Outcome;
+use paper::SalvageAnswer;
 use paper::SetAnswer;
 use paper::TraceAnswer;
 use paper::Verdict;
 use paper::WriteAnswer;
 ghost use mathlib.Core.Path.{_≡_};
-ghost use Rattle.paper.specs.Answers.{toldVerdict, toldTrace, toldOutcome, toldBlock, toldSet, toldWrite, toldFind, valueOr, limitOr};
+ghost use Rattle.paper.specs.Answers.{toldVerdict, toldTrace, toldOutcome, toldBlock, toldSet, toldWrite, toldFind, toldSalvage, valueOr, limitOr, secondOr};
 
 pub fn check(answer: Verdict, place: &mut u64, second: &mut u64) -> u8
     ensures { λ r. ⌜ r ≡ toldVerdict answer .number ⌝ }
@@ -70,6 +71,27 @@ pub fn find(answer: FindAnswer, limit: &mut u16, place: &mut u64) -> u8
         FindAnswer::Refused(unsound) => {
             *place = unsound.place as u64;
             unsound.number
+        }
+    }
+}
+
+// The length of the rest, and how many facts were dropped.
+pub fn salvage(answer: SalvageAnswer, length: &mut u64, count: &mut u64, place: &mut u64) -> u8
+    ensures { λ r. ⌜ r ≡ toldSalvage answer .number ⌝ }
+    ensures { λ _. ⌜ now (length .exit) ≡ valueOr (now (length .entry)) (toldSalvage answer) ⌝ }
+    ensures { λ _. ⌜ now (count .exit) ≡ secondOr (now (count .entry)) (toldSalvage answer) ⌝ }
+    ensures { λ _. ⌜ now (place .exit) ≡ toldSalvage answer .place ⌝ }
+{
+    match answer {
+        SalvageAnswer::Salvaged(rest) => {
+            *length = rest.length as u64;
+            *count = rest.dropped as u64;
+            *place = 0;
+            0
+        }
+        SalvageAnswer::Refused(lost) => {
+            *place = lost.place as u64;
+            lost.number
         }
     }
 }

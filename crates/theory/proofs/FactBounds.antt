@@ -6,8 +6,8 @@ use native.Mathlib.Nat.{mul-add, suc-mul, one-mul, mul-comm, le-trans, div-mul-l
 use mathlib.Core.Path.{_≡_, _∙_, ap}
 use mathlib.Core.Logic.{_≢_}
 use mathlib.Core.List.{List}
-use borrow.Author.Tests.{lt-ltb, le-ltb}
-use Rattle.paper.specs.Machines.{none}
+use borrow.Author.Tests.{lt-ltb, le-ltb, lt-leb, le-leb}
+use Rattle.paper.specs.Machines.{none, levels, treeLimit}
 use Rattle.paper.specs.Cases.{Fact, Case}
 use Rattle.paper.specs.Walks.{Walk, KeepsLimits}
 use Rattle.paper.specs.Bounds.{covers, counts, ceil, g, boundOf, entered, factBound}
@@ -19,7 +19,8 @@ use Rattle.theory.proofs.Lru.{lru-law}
 use Rattle.theory.proofs.Fifo.{fifo-law, fifo-one-law}
 use Rattle.theory.proofs.Nmru.{nmru-law}
 use Rattle.theory.proofs.Pair.{nmru-pair-law}
-use Rattle.theory.proofs.Policies.{Policy, Lru, Fifo, Nmru, number, ideal, fewest, fair}
+use Rattle.theory.proofs.Tree.{tree-law}
+use Rattle.theory.proofs.Policies.{Policy, Lru, Fifo, Nmru, Tree, number, ideal, Fits, fair}
 use Rattle.theory.proofs.Moves.{Held, Fine, misses, misses-le}
 use Rattle.theory.proofs.FactRuns.{law-bound}
 
@@ -53,7 +54,7 @@ module _ (k n : ℕ) (h : 0 < k) (i : 0 < n) where
 -- What keeps every law of the machine for b and l, at most N in all, keeps the table's line.
 module _ (k b l E N : ℕ) (real : b ≢ none) (low : 1 ≤ l) (high : l ≤ k) where
   bounded :
-      (P : Policy) → fewest P ≤ k → (F : ℕ) → ((c a d : ℕ) → Law (ideal P k) b (l - 1) c a d → c * F ≤ a * E + d * N) → F ≤ N → F ≤ boundOf (number P) k l E N
+      (P : Policy) → Fits P k → (F : ℕ) → ((c a d : ℕ) → Law (ideal P k) b (l - 1) c a d → c * F ≤ a * E + d * N) → F ≤ N → F ≤ boundOf (number P) k l E N
   unfolding boundOf
   bounded Lru o F by most = omega (arith, by 1 1 0 (lru-law k b (l - 1) (omega arith)))
   bounded Fifo o F by most =
@@ -72,12 +73,17 @@ module _ (k b l E N : ℕ) (real : b ≢ none) (low : 1 ≤ l) (high : l ≤ k) 
             let z : suc (l - 1) ≡ l = omega arith in
             let r = by 1 (suc (l - 1)) 0 (nmru-law b (l - 1) k real (omega arith) o) in
             rw (le-ltb l 3 i) (omega (arith, ap (λ (n : ℕ). n * E) z))
-        | no i ↦ rw (lt-ltb l 3 (omega arith)) (omega (arith, by 1 1 0 (nmru-pair-law b (l - 1) k real (omega arith))))
+        | no i ↦ rw (lt-ltb l 3 (omega arith)) (omega (arith, by 1 1 0 (nmru-pair-law b (l - 1) k real (omega arith) o)))
+      ]
+  bounded Tree o F by most =
+      elim (decLe l (treeLimit k)) [
+        | yes i ↦ rw (le-leb l (treeLimit k) i) (omega (arith, by 1 1 0 (tree-law b (l - 1) k real o (unfold treeLimit in omega arith))))
+        | no i ↦ rw (lt-leb l (treeLimit k) (omega arith)) most
       ]
 
 module _ (e : Case) (s : Sound e) (w : List ℕ) (walk : Walk e w) (kept : KeepsLimits e w) (t : Fact) (h : SoundFact e t) where
   pub fact-bounded :
-      (P : Policy) → e .policy ≡ number P → (o : fewest P ≤ e .ways) (c : Held e (ideal P (e .ways))) → Fine e (ideal P (e .ways)) c
+      (P : Policy) → e .policy ≡ number P → (o : Fits P (e .ways)) (c : Held e (ideal P (e .ways))) → Fine e (ideal P (e .ways)) c
       → paid (covers e t) (misses e (ideal P (e .ways)) w c) ≤ factBound e t
   unfolding factBound
   fact-bounded P is o c fine =

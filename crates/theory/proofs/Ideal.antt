@@ -1,5 +1,5 @@
--- The three machines on k lines and no more: what the paper's eight lines show when those from k on are cut away. A list of k blocks is a set's lines.
-use Prim.Native.Nat.{ℕ, _-_, _^_, _≤_, _<_}
+-- The machines on k lines and no more: what the paper's eight lines show when those from k on are cut away. A list of k blocks is a set's lines.
+use Prim.Native.Nat.{ℕ, _-_, _≤_, _<_}
 use mathlib.Core.Path.{_≡_}
 use mathlib.Core.Logic.{_≢_}
 use mathlib.Core.Bool.{cond}
@@ -7,7 +7,7 @@ use mathlib.Core.List.{List, [], _∷_}
 use lib.Dec.{eqb}
 use lib.ListN.{length, set}
 use Rattle.paper.specs.declared.SetState.{SetState}
-use Rattle.paper.specs.Machines.{none, lineOf, victim, marked}
+use Rattle.paper.specs.Machines.{none, lineOf, victim, marked, treeVictim}
 use Rattle.theory.proofs.Count.{cnt}
 
 -- 1 where x stands in no line, and else 0
@@ -38,14 +38,30 @@ pub record LegalLines (k : ℕ) (l : List ℕ) : Type 0 where
 unfoldable pub at : ℕ → List ℕ → ℕ → ℕ
 at x l j = cond (eqb (cnt x l) 0) j (lineOf l x)
 
--- NMRU: the line that holds x, or "the lowest empty line", or "the lowest line whose bit is 0"
-unfoldable pub spot : ℕ → ℕ → SetState → ℕ
-spot k x s = at x (s .lines) (at none (s .lines) (victim k (s .bits)))
+-- NMRU and tree: the line that holds x, or the one that v names where none does
+unfoldable pub place : (SetState → ℕ) → ℕ → SetState → ℕ
+place v x s = at x (s .lines) (v s)
 
-abbrev pub nmru : ℕ → ℕ → SetState → SetState
-nmru k x s = record { lines = set (s .lines) (spot k x s) x; bits = marked k (s .bits) (spot k x s) }
+-- x comes to its line, and m marks the line in the bits
+abbrev pub placed : (SetState → ℕ) → (ℕ → ℕ → ℕ) → ℕ → SetState → SetState
+placed v m x s = record { lines = set (s .lines) (place v x s) x; bits = m (s .bits) (place v x s) }
 
-pub record LegalWays (k : ℕ) (s : SetState) : Type 0 where
+-- k lines, and bits below n
+pub record LegalWays (k n : ℕ) (s : SetState) : Type 0 where
   pub apart : Apart (s .lines)
   pub lines-k : length (s .lines) ≡ k
-  pub few : s .bits < 2 ^ k - 1
+  pub few : s .bits < n
+
+-- NMRU: "the lowest empty line", or "the lowest line whose bit is 0"
+unfoldable pub freed : ℕ → SetState → ℕ
+freed k s = at none (s .lines) (victim k (s .bits))
+
+abbrev pub spot : ℕ → ℕ → SetState → ℕ
+spot k x s = place (freed k) x s
+
+abbrev pub nmru : ℕ → ℕ → SetState → SetState
+nmru k x s = placed (freed k) (marked k) x s
+
+-- tree: the line that the bits lead to, "empty or not"
+abbrev pub led : ℕ → SetState → ℕ
+led k s = treeVictim k (s .bits)

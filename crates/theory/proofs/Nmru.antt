@@ -1,5 +1,5 @@
 -- NMRU: of b's accesses in a stay at most l miss. Each time b is lost it comes back in a higher line, and it never comes to line l.
-use Prim.Native.Nat.{ℕ, suc, _+_, _-_, _*_, _≤_, _<_}
+use Prim.Native.Nat.{ℕ, suc, _+_, _-_, _*_, _^_, _≤_, _<_}
 use mathlib.Core.Path.{_≡_, refl, sym, _∙_, ap}
 use mathlib.Core.Logic.{_≢_, _⊎_, inl, inr}
 use mathlib.Core.List.{List, []}
@@ -7,19 +7,14 @@ use native.Mathlib.Decide.{ℕ-discrete, decLe}
 use native.Mathlib.Omega.{arith}
 use lib.ListN.{length, getD}
 use Rattle.paper.specs.declared.SetState.{SetState}
-use Rattle.paper.specs.Machines.{none, bitAt}
+use Rattle.paper.specs.Machines.{none, bitAt, marked}
 use Rattle.paper.proofs.Bits.{same, flipped}
 use Rattle.theory.proofs.Count.{sum, one, cnt, one-yes, one-no}
-use Rattle.theory.proofs.Ideal.{miss, spot, nmru, LegalWays}
+use Rattle.theory.proofs.Ideal.{miss, freed, spot, nmru, LegalWays}
 use Rattle.theory.proofs.Pigeon.{pigeon}
-use Rattle.theory.proofs.Ways.{hit, fill, new, goes, own, rest, stands, others, there, taken, swapped, stays-full, legal-nmru}
-use Rattle.theory.proofs.Law.{Machine, Fair, Law}
-
-abbrev pub NMRU : ℕ → Machine
-NMRU k = record { State = SetState; miss = λ x s. miss x (s .lines); step = nmru k; Legal = LegalWays k }
-
-pub nmru-fair : (k : ℕ) → 2 ≤ k → Fair (NMRU k)
-nmru-fair k h = record { legal = λ x s v. legal-nmru k x s v h; once = λ x s. omega arith }
+use Rattle.theory.proofs.Ways.{Marks, stands, others, there, swapped, stays-full, legal-placed}
+use Rattle.theory.proofs.Spots.{NMRU, nmru-marks, own, rest, taken, by-bits}
+use Rattle.theory.proofs.Law.{Law}
 
 -- each line whose bit is 1 holds a block of R
 abbrev Within : List ℕ → SetState → Type 0
@@ -31,14 +26,17 @@ module _ (b n k : ℕ) (bb : b ≢ none) (nk : n < k) (k2 : 2 ≤ k) where
     here : (i : ℕ) → getD (s .lines) i none ≡ b → f ≤ suc i → f ≤ suc n → (bitAt (s .bits) i ≡ 1 ⊎ Within R s) → Held R f s
     lost : cnt b (s .lines) ≡ 0 → cnt none (s .lines) ≡ 0 → Within R s → ((j : ℕ) → j < f → bitAt (s .bits) j ≡ 1) → Held R f s
 
-  touched : (f : ℕ) (s : SetState) → LegalWays k s → f ≤ suc (spot k b s) → f ≤ suc n → Held [] f (nmru k b s)
-  touched f s v g h = here (spot k b s) (stands k b s v) g h (inl (own k b s v))
+  marks : Marks k (2 ^ k - 1) (freed k) (marked k)
+  marks = nmru-marks k k2
+
+  touched : (f : ℕ) (s : SetState) → LegalWays k (2 ^ k - 1) s → f ≤ suc (spot k b s) → f ≤ suc n → Held [] f (nmru k b s)
+  touched f s v g h = here (spot k b s) (stands marks b s v) g h (inl (own k2 b s v))
 
   -- another block of R is accessed
-  module _ (x : ℕ) (R : List ℕ) (s : SetState) (u : x ≢ b) (few : length R ≤ n) (real : cnt none R ≡ 0) (new∈ : 1 ≤ cnt x R) (v : LegalWays k s) where
+  module _ (x : ℕ) (R : List ℕ) (s : SetState) (u : x ≢ b) (few : length R ≤ n) (real : cnt none R ≡ 0) (new∈ : 1 ≤ cnt x R) (v : LegalWays k (2 ^ k - 1) s) where
     within : ((i : ℕ) → i ≢ spot k x s → bitAt (nmru k x s .bits) i ≡ 1 → 1 ≤ cnt (getD (s .lines) i none) R) → Within R (nmru k x s)
     within h i on =
-        elim (ℕ-discrete i (spot k x s)) [ yes e ↦ rw (e, stands k x s v) new∈ | no e ↦ rw (others k x s v i e) (h i e on) ]
+        elim (ℕ-discrete i (spot k x s)) [ yes e ↦ rw (e, stands marks x s v) new∈ | no e ↦ rw (others marks x s v i e) (h i e on) ]
 
     flip : ((i : ℕ) → i ≢ spot k x s → bitAt (nmru k x s .bits) i ≡ 0) → Within R (nmru k x s)
     flip off = within (λ i e on. absurd (omega (arith, off i e)))
@@ -46,14 +44,14 @@ module _ (b n k : ℕ) (bb : b ≢ none) (nk : n < k) (k2 : 2 ≤ k) where
     -- while every line with the bit 1 holds a block of R the bits do not flip: that would need k blocks of R
     kept : Within R s → (i : ℕ) → i ≢ spot k x s → bitAt (nmru k x s .bits) i ≡ bitAt (s .bits) i
     kept m =
-        elim (rest k x s v) [
+        elim (rest k2 x s v) [
           | same i l e z h ↦ h
           | flipped ones off ↦
               absurd
               (omega (
                 arith,
-                pigeon k (nmru k x s .lines) R (legal-nmru k x s v k2 .apart) real λ i l.
-                    elim (ℕ-discrete i (spot k x s)) [ yes e ↦ rw (e, stands k x s v) new∈ | no e ↦ rw (others k x s v i e) (m i (ones i l e)) ],
+                pigeon k (nmru k x s .lines) R (legal-placed marks x s v .apart) real λ i l.
+                    elim (ℕ-discrete i (spot k x s)) [ yes e ↦ rw (e, stands marks x s v) new∈ | no e ↦ rw (others marks x s v i e) (m i (ones i l e)) ],
               ))
         ]
 
@@ -61,33 +59,33 @@ module _ (b n k : ℕ) (bb : b ≢ none) (nk : n < k) (k2 : 2 ≤ k) where
     still m = within (λ i e on. m i (sym (kept m i e) ∙ on))
 
     ones : (f : ℕ) → Within R s → ((i : ℕ) → i < f → i ≢ spot k x s → bitAt (s .bits) i ≡ 1) → (i : ℕ) → i < f → bitAt (nmru k x s .bits) i ≡ 1
-    ones f m h i l = elim (ℕ-discrete i (spot k x s)) [ yes e ↦ rw e (own k x s v) | no e ↦ kept m i e ∙ h i l e ]
+    ones f m h i l = elim (ℕ-discrete i (spot k x s)) [ yes e ↦ rw e (own k2 x s v) | no e ↦ kept m i e ∙ h i l e ]
 
     lines-b : cnt b (nmru k x s .lines) + one b (getD (s .lines) (spot k x s) none) ≡ cnt b (s .lines)
-    lines-b = omega (arith, swapped k x s v b, one-no b x u)
+    lines-b = omega (arith, swapped marks x s v b, one-no b x u)
 
     -- R has no empty line's number, so x is a block and fills the line it goes to
     full : cnt none (s .lines) ≡ 0 → cnt none (nmru k x s .lines) ≡ 0
-    full = stays-full k x s v (λ e. omega (arith, ap (λ (y : ℕ). cnt y R) e))
+    full = stays-full marks x s v (λ e. omega (arith, ap (λ (y : ℕ). cnt y R) e))
 
     passed : (f : ℕ) → Held R f s → Held R f (nmru k x s)
     passed f (lost z o m g) = lost (omega (arith, lines-b)) (full o) (still m) (ones f m (λ i l e. g i l))
     passed f (here i a g h (inl on)) =
         elim (ℕ-discrete i (spot k x s)) [
-          | yes e ↦ absurd (omega (arith, taken k x s v b i bb u a e .1))
+          | yes e ↦ absurd (omega (arith, taken k2 x s v b i bb u a e .1))
           | no e ↦
-              here i (others k x s v i e ∙ a) g h
-              (elim (rest k x s v) [ same j l d z k ↦ inl (k i e ∙ on) | flipped o off ↦ inr (flip off) ])
+              here i (others marks x s v i e ∙ a) g h
+              (elim (rest k2 x s v) [ same j l d z k ↦ inl (k i e ∙ on) | flipped o off ↦ inr (flip off) ])
         ]
     passed f (here i a g h (inr m)) =
         elim (ℕ-discrete i (spot k x s)) [
           | yes e ↦
               lost
               (omega (arith, lines-b, v .apart b bb, one-yes b (getD (s .lines) (spot k x s) none) (ap (λ (j : ℕ). getD (s .lines) j none) (sym e) ∙ a)))
-              (full (taken k x s v b i bb u a e .0))
+              (full (taken k2 x s v b i bb u a e .0))
               (still m)
-              (ones f m (λ j l d. taken k x s v b i bb u a e .2 j (omega arith)))
-          | no e ↦ here i (others k x s v i e ∙ a) g h (inr (still m))
+              (ones f m (λ j l d. taken k2 x s v b i bb u a e .2 j (omega arith)))
+          | no e ↦ here i (others marks x s v i e ∙ a) g h (inr (still m))
         ]
 
   record Kept (c : ℕ) (R : List ℕ) (s : SetState) : Type 0 where
@@ -97,7 +95,7 @@ module _ (b n k : ℕ) (bb : b ≢ none) (nk : n < k) (k2 : 2 ≤ k) where
     cf : c + f ≡ suc n
     held : Held R f s
 
-  fresh : (f c : ℕ) (s : SetState) → LegalWays k s → f ≤ suc (spot k b s) → f ≤ suc n → c + f ≡ suc n → Kept c [] (nmru k b s)
+  fresh : (f c : ℕ) (s : SetState) → LegalWays k (2 ^ k - 1) s → f ≤ suc (spot k b s) → f ≤ suc n → c + f ≡ suc n → Kept c [] (nmru k b s)
   unfolding sum
   fresh f c s v g h e = record { few = omega arith; real = refl; f = f; cf = e; held = touched f s v g h }
 
@@ -107,23 +105,15 @@ module _ (b n k : ℕ) (bb : b ≢ none) (nk : n < k) (k2 : 2 ≤ k) where
   held-wider R R' f s w (lost z o m g) = lost z o (λ j p. w _ (m j p)) g
 
   -- b comes back above the f lines: none is empty, so it goes by the bits
-  above : (f : ℕ) (s : SetState) → LegalWays k s → cnt b (s .lines) ≡ 0 → cnt none (s .lines) ≡ 0 → ((j : ℕ) → j < f → bitAt (s .bits) j ≡ 1) → f ≤ spot k b s
+  above : (f : ℕ) (s : SetState) → LegalWays k (2 ^ k - 1) s → cnt b (s .lines) ≡ 0 → cnt none (s .lines) ≡ 0 → ((j : ℕ) → j < f → bitAt (s .bits) j ≡ 1) → f ≤ spot k b s
   above f s v z o g =
-      elim (decLe f (spot k b s)) [
-        | yes h ↦ h
-        | no h ↦
-            elim (goes k b s v) [
-              | hit c p ↦ absurd (omega arith)
-              | fill c i p ↦ absurd (omega arith)
-              | new c i y d ↦ absurd (omega (arith, g (spot k b s) (omega arith)))
-            ]
-      ]
+      elim (decLe f (spot k b s)) [ yes h ↦ h | no h ↦ absurd (omega (arith, g (spot k b s) (omega arith), by-bits k2 b s v z o)) ]
 
-  repeat : (m : ℕ) (R : List ℕ) (s : SetState) → LegalWays k s → Kept m R s → (m′ : ℕ) × (1 * miss b (s .lines) + m′ ≤ 0 + m) × Kept m′ [] (nmru k b s)
+  repeat : (m : ℕ) (R : List ℕ) (s : SetState) → LegalWays k (2 ^ k - 1) s → Kept m R s → (m′ : ℕ) × (1 * miss b (s .lines) + m′ ≤ 0 + m) × Kept m′ [] (nmru k b s)
   repeat m R s v q =
       elim (q .held) [
         | here i a g h o ↦
-            let t = there k b s v bb i a in
+            let t = there marks b s v bb i a in
             (m, omega (arith, t .0), fresh (q .f) m s v (omega (arith, t .1)) h (q .cf))
         | lost z o w g ↦
             let p = pigeon (q .f) (s .lines) R (v .apart) (q .real) (λ j l. w j (g j l)) in (

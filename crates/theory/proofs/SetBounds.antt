@@ -18,7 +18,7 @@ use Rattle.paper.proofs.Says.{says-is}
 use Rattle.theory.proofs.Ranges.{some-set}
 use Rattle.theory.proofs.SumLaws.{sum-le}
 use Rattle.theory.proofs.Costs.{paid, paid-none, paid-split}
-use Rattle.theory.proofs.Policies.{Policy, Lru, Fifo, Nmru, number, ideal, fewest, fair}
+use Rattle.theory.proofs.Policies.{Policy, Lru, Fifo, Nmru, Tree, number, ideal, Fits, fair}
 use Rattle.paper.proofs.TestLaws.{lives-says}
 use Rattle.theory.proofs.Moves.{inSet, Held, Fine, misses}
 use Rattle.theory.proofs.FactBounds.{fact-bounded}
@@ -31,14 +31,14 @@ lowest-le f x a zero h g = h
 lowest-le f x a (suc n) h g = omega (arith, lowest-le f x a n h (λ j l. g j (omega arith)), g n (omega arith))
 
 module _ (e : Case) (s : Sound e) (w : List ℕ) (walk : Walk e w) (kept : KeepsLimits e w) where
-  by-A : (P : Policy) → e .policy ≡ number P → (o : fewest P ≤ e .ways) (c : Held e (ideal P (e .ways))) → Fine e (ideal P (e .ways)) c →
+  by-A : (P : Policy) → e .policy ≡ number P → (o : Fits P (e .ways)) (c : Held e (ideal P (e .ways))) → Fine e (ideal P (e .ways)) c →
       (q : ℕ) → paid (inSet e q) (misses e (ideal P (e .ways)) w c) ≤ A e q
   unfolding A
   by-A P is o c fine q =
       set-sum e s w walk kept (ideal P (e .ways)) (fair P (e .ways) o) (anyFact e) (factBound e) q c
       (λ i l z. fact-bounded e s w walk kept (e .fact i) (s .facts i l) P is o c fine)
 
-  pub set-bounded : (P : Policy) → e .policy ≡ number P → (o : fewest P ≤ e .ways) (c : Held e (ideal P (e .ways))) → Fine e (ideal P (e .ways)) c →
+  pub set-bounded : (P : Policy) → e .policy ≡ number P → (o : Fits P (e .ways)) (c : Held e (ideal P (e .ways))) → Fine e (ideal P (e .ways)) c →
       (q : ℕ) → q < e .sets → paid (inSet e q) (misses e (ideal P (e .ways)) w c) ≤ setBound e q
   unfolding setBound
   set-bounded P is o c fine q l = go P is o c fine
@@ -46,7 +46,7 @@ module _ (e : Case) (s : Sound e) (w : List ℕ) (walk : Walk e w) (kept : Keeps
       bound : ℕ → ℕ
       bound p = cond (partsOf p .floors) (lowestTo (floorAt e q) (A e q) (e .ways)) (A e q)
 
-      go : (P : Policy) → e .policy ≡ number P → (o : fewest P ≤ e .ways) (c : Held e (ideal P (e .ways))) → Fine e (ideal P (e .ways)) c →
+      go : (P : Policy) → e .policy ≡ number P → (o : Fits P (e .ways)) (c : Held e (ideal P (e .ways))) → Fine e (ideal P (e .ways)) c →
           paid (inSet e q) (misses e (ideal P (e .ways)) w c) ≤ bound (e .policy)
       go Lru is o c fine = omega (arith, by-A Lru is o c fine q, ap bound is)
       go Fifo is o c fine =
@@ -57,9 +57,10 @@ module _ (e : Case) (s : Sound e) (w : List ℕ) (walk : Walk e w) (kept : Keeps
                 by-floor e j i q l s w walk kept c fine,
           )
       go Nmru is o c fine = omega (arith, by-A Nmru is o c fine q, ap bound is)
+      go Tree is o c fine = omega (arith, by-A Tree is o c fine q, ap bound is)
 
   -- every fetch is of one set
-  pub all-bounded : (P : Policy) → e .policy ≡ number P → (o : fewest P ≤ e .ways) (c : Held e (ideal P (e .ways))) → Fine e (ideal P (e .ways)) c →
+  pub all-bounded : (P : Policy) → e .policy ≡ number P → (o : Fits P (e .ways)) (c : Held e (ideal P (e .ways))) → Fine e (ideal P (e .ways)) c →
       paid (λ v. not (eqb (e .block v) none)) (misses e (ideal P (e .ways)) w c) ≤ totalBound e
   unfolding totalBound
   all-bounded P is o c fine =

@@ -11,6 +11,14 @@ unfolding sumTo
 sum-le f g zero h = omega arith
 sum-le f g (suc n) h = omega (arith, sum-le f g n (λ j l. h j (omega arith)), h n (omega arith))
 
+pub sum-same : (f g : ℕ → ℕ) (n : ℕ) → ((j : ℕ) → j < n → f j ≡ g j) → sumTo f n ≡ sumTo g n
+sum-same f g n h = omega (arith, sum-le f g n (λ j l. omega (arith, h j l)), sum-le g f n (λ j l. omega (arith, h j l)))
+
+pub sum-two : (f g h : ℕ → ℕ) (n : ℕ) → ((j : ℕ) → j < n → f j + g j ≤ h j) → sumTo f n + sumTo g n ≤ sumTo h n
+unfolding sumTo
+sum-two f g h zero l = omega arith
+sum-two f g h (suc n) l = omega (arith, sum-two f g h n (λ j q. l j (omega arith)), l n (omega arith))
+
 pub sum-at : (f : ℕ → ℕ) (n i : ℕ) → i < n → f i ≤ sumTo f n
 unfolding sumTo
 sum-at f zero i h = absurd (omega arith)

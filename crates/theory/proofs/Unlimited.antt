@@ -1,5 +1,5 @@
 -- Where no loop has a W the counts and entries are the products of document 01. E is at most N there, so the lesser is E, and all numbers are document 01's: a file of version 1 keeps its numbers.
-use Prim.Native.Nat.{ℕ, zero, suc, _+_, _-_, _*_, _≤_, _<_}
+use Prim.Native.Nat.{ℕ, zero, suc, _-_, _*_, _≤_, _<_}
 use native.Mathlib.Omega.{arith}
 use native.Mathlib.Decide.{ℕ-discrete, decLt}
 use native.Mathlib.Nat.{mul-comm, mul-one, mul-pos, mul-le-mul}
@@ -11,7 +11,7 @@ use borrow.Author.Tests.{eq-eqb, ne-eqb, le-ltb}
 use lib.Dec.{ltb}
 use Rattle.paper.specs.declared.Loop.{Loop}
 use Rattle.paper.specs.declared.Verdict.the-variants.{Accepted}
-use Rattle.paper.specs.Lists.{sumTo, chain, productTo, lowestTo}
+use Rattle.paper.specs.Lists.{chain, productTo, lowestTo}
 use Rattle.paper.specs.Machines.{none}
 use Rattle.paper.specs.Cases.{Fact, Case, unlimited, inside, rangeOf, scopeOf}
 use Rattle.paper.specs.Graphs.{around, atMost, headerVisits, innermost, count, outer, entriesOf, entries}
@@ -28,7 +28,7 @@ use Rattle.paper.proofs.LoopSizes.{visits-without}
 use Rattle.paper.proofs.TableLaws.{same-table}
 use Rattle.paper.proofs.TestLaws.{covers-says}
 use Rattle.paper.proofs.VerdictLaws.{file-sound, enough}
-use Rattle.theory.proofs.SumLaws.{sum-le, sum-at}
+use Rattle.theory.proofs.SumLaws.{sum-same, sum-at}
 
 product-pos : (g : ℕ → ℕ) (n : ℕ) → ((j : ℕ) → j < n → 1 ≤ g j) → 1 ≤ productTo g n
 unfolding productTo
@@ -39,9 +39,6 @@ product-le : (g h : ℕ → ℕ) (n : ℕ) → ((j : ℕ) → j < n → g j ≤ 
 unfolding productTo
 product-le g h zero le = omega arith
 product-le g h (suc n) le = mul-le-mul (product-le g h n (λ j l. le j (omega arith))) (le n (omega arith))
-
-sum-same : (f g : ℕ → ℕ) (n : ℕ) → ((j : ℕ) → j < n → f j ≡ g j) → sumTo f n ≡ sumTo g n
-sum-same f g n h = omega (arith, sum-le f g n (λ j l. omega (arith, h j l)), sum-le g f n (λ j l. omega (arith, h j l)))
 
 lowest-same : (g h : ℕ → ℕ) (a : ℕ) → ((j : ℕ) → g j ≡ h j) → (n : ℕ) → lowestTo g a n ≡ lowestTo h a n
 unfolding lowestTo

@@ -37,7 +37,7 @@ pub fn read_facts(layout: &Layout, ground: &Ground) -> Result<Vec<Fact>, Refusal
 }
 
 /// One fact, or the first rule that it breaks.
-fn read_fact(rest: &mut &[u8], place: usize, previous: Option<&Fact>, ground: &Ground) -> Result<Fact, Refusal> {
+pub fn read_fact(rest: &mut &[u8], place: usize, previous: Option<&Fact>, ground: &Ground) -> Result<Fact, Refusal> {
     let refuse = |number| Refusal::new(number, place);
     let head = take_array(rest).ok_or(refuse(11))?;
     let mut fact = ground.take_turn(place, previous, head)?;

@@ -12,6 +12,7 @@ mod graph_rules;
 mod layout;
 mod rows;
 mod rules;
+mod salvage;
 mod verdict;
 mod writer;
 
@@ -26,6 +27,7 @@ pub use graph::{Graph, Loop, Scope};
 pub use layout::{claimed_numbers, loops_have_w, Numbers, LARGEST, TRAILER, VERSIONS};
 pub use rows::{Row, RowRecord, ROW_NUMBERS};
 pub use rules::{Paper, Rules, Stakes};
+pub use salvage::{salvage, Apart, Salvaged};
 pub use verdict::{check, judge, Case, NUMBERS};
 pub use writer::{read_content, write};
 

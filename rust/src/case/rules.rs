@@ -51,7 +51,15 @@ pub trait Rules {
             Policy::Nmru if limit <= 2 => entries,
             Policy::Fifo => entries + (fetches - entries) / self.group(ways, limit),
             Policy::Nmru => fetches.min(limit * entries),
+            Policy::Tree if limit <= self.tree_limit(ways) => entries,
+            // "a larger limit gets N, because no larger limit helps in general"
+            Policy::Tree => fetches,
         }
+    }
+
+    /// "A fact whose limit is at most 1 + log2 k has bound E": as many halvings as leave one line.
+    fn tree_limit(&self, ways: u128) -> u128 {
+        1 + u128::from(ways.ilog2())
     }
 
     /// "floor(k·M(l)/(k-l+1))"

@@ -90,7 +90,7 @@ fn heavy_fact(policy: u8, limit: u16) -> Draft {
 
 /// A fact about a loop that is entered a thousand times, and a block that is fetched where W lets a walk come but rarely:
 /// N is below E.
-fn seldom(policy: u8, limit: u16) -> Draft {
+pub fn seldom(policy: u8, limit: u16) -> Draft {
     let loops = vec![
         LoopRecord::new(0, 3, 1_000),
         LoopRecord::new(1, 3, 2),
@@ -98,7 +98,8 @@ fn seldom(policy: u8, limit: u16) -> Draft {
     ];
     let lists =
         Lists { nodes: vec![1, 2, 7, 7], edges: vec![(0, 1), (1, 0), (1, 1), (1, 2), (2, 3), (3, 0), (3, 2)], loops };
-    let facts = vec![FactRecord { scope: 1, block: 7, limit, rows: fetched_once(1..4, 3) }];
+    let rows = vec![Row::NotSince.record(), nothing(), nothing()];
+    let facts = vec![FactRecord { scope: 1, block: 7, limit, rows }];
     Draft { version: 2, policy, ways: 8, sets: 2, lists, facts }
 }
 
@@ -150,10 +151,10 @@ pub fn drafts() -> Vec<Draft> {
         // The largest file that can be accepted.
         with_facts(with_loops(with_edges(nodes(1_024), 4_096), 64), 256),
     ];
-    drafts.extend((0..3).flat_map(|policy| [1, 10, 1_000_000].map(|bound| alone(policy, bound))));
-    drafts.extend((0..3).flat_map(|policy| [heavy(policy), heavy_fact(policy, 2), heavy_fact(policy, 8)]));
+    drafts.extend((0..4).flat_map(|policy| [1, 10, 1_000_000].map(|bound| alone(policy, bound))));
+    drafts.extend((0..4).flat_map(|policy| [heavy(policy), heavy_fact(policy, 2), heavy_fact(policy, 8)]));
     drafts.extend(limits());
-    drafts.extend((0..3).flat_map(|policy| [1, 2, 3, 8].map(|limit| seldom(policy, limit))));
+    drafts.extend((0..4).flat_map(|policy| [1, 2, 3, 8].map(|limit| seldom(policy, limit))));
     // The largest that can be accepted in version 2.
     let mut largest = Draft { version: 2, ..with_facts(with_loops(with_edges(nodes(1_024), 4_096), 64), 256) };
     largest.lists.loops.iter_mut().for_each(|record| record.visits = 2);

@@ -2,7 +2,7 @@
 
 use super::{Comparison, Settings};
 use crate::generate::{damage::Spot, palette, sets, states, traces};
-use crate::machine::{address::LINE_SIZES, Policy, SetState, Shape, NONE};
+use crate::machine::{address::LINE_SIZES, SetState, Shape, NONE};
 use crate::pipe::{room, Pipe, Request};
 use crate::random::Random;
 
@@ -97,7 +97,11 @@ fn damaged_runs(random: &mut Random, comparison: &mut Comparison, (policy, ways)
 fn longest_run(random: &mut Random, comparison: &mut Comparison) -> Result<(), String> {
     let blocks = traces::trace(random, room::ACCESSES, 8, 64);
     let marks = random.noise(room::MARKS, |number| number as u8);
-    comparison.add(Request::Trace { policy: 2, ways: 8, sets: 64, blocks, marks })
+    for policy in [2, 3] {
+        let (blocks, marks) = (blocks.clone(), marks.clone());
+        comparison.add(Request::Trace { policy, ways: 8, sets: 64, blocks, marks })?;
+    }
+    Ok(())
 }
 
 /// Single steps on legal and illegal states, with faulty arguments among them.
@@ -124,13 +128,13 @@ fn steps(
     Ok(())
 }
 
-/// Every pattern of bits (NMRU) or of empty lines (LRU, FIFO), each with a hit at every line and a miss.
+/// Every pattern of bits (NMRU, the tree), legal or not, or of empty lines (LRU, FIFO), each with a hit at every line and a miss.
 fn sweep(random: &mut Random, comparison: &mut Comparison, (policy, ways): (u8, u8)) -> Result<(), String> {
     let shape = Shape::read(policy, ways).expect("one of the shapes there are");
     let blocks: Vec<u16> = (100..108).collect();
     for pattern in 0..1usize << ways {
         let mut state = states::legal_state(random, shape, &blocks);
-        if shape.policy == Policy::Nmru {
+        if states::patterns(shape) > 1 {
             state.bits = pattern as u8;
         } else {
             let empty = |line: usize| line >= shape.ways || pattern >> line & 1 == 1;
@@ -145,14 +149,15 @@ fn sweep(random: &mut Random, comparison: &mut Comparison, (policy, ways): (u8, 
     Ok(())
 }
 
-/// NMRU: every pattern of bits with every pattern of empty lines, and a block that misses.
+/// NMRU and the tree: every legal pattern of bits with every pattern of empty lines, and a block that misses.
 fn holes(comparison: &mut Comparison, (policy, ways): (u8, u8)) -> Result<(), String> {
     let shape = Shape::read(policy, ways).expect("one of the shapes there are");
-    if shape.policy != Policy::Nmru {
+    if states::patterns(shape) == 1 {
         return Ok(());
     }
-    let patterns = 1usize << ways;
-    for (bits, pattern) in (0..patterns - 1).flat_map(|bits| (0..patterns).map(move |pattern| (bits, pattern))) {
+    let holes = 1usize << ways;
+    let bits = 0..states::patterns(shape);
+    for (bits, pattern) in bits.flat_map(|bits| (0..holes).map(move |pattern| (bits, pattern))) {
         let empty = |line: usize| line >= shape.ways || pattern >> line & 1 == 1;
         let lines = std::array::from_fn(|line| if empty(line) { NONE } else { 100 + line as u16 });
         comparison.add(Request::Step { policy, ways, state: SetState { lines, bits: bits as u8 }, block: 99 })?;

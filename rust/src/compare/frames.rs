@@ -27,6 +27,7 @@ fn small_frames() -> Vec<Request> {
         Request::Check { file: vec![81, 77, 66, 84], numbers: vec![5] },
         Request::Write { content: content([1, 2, 3, 4, 8]), out: vec![7; 50] },
         Request::Find { file: vec![81, 77, 66, 84, 3], scope: 1, block: 700, rows: vec![5; 3] },
+        Request::Salvage { file: vec![81, 77, 66, 84, 3], out: vec![7; 4], dropped: vec![5; 2] },
     ]
 }
 
@@ -56,7 +57,7 @@ pub fn run(pipe: &Pipe, settings: &Settings) -> Result<(), String> {
             converse(pipe, &before(&mut random), &whole[..cut], &[CUT_SHORT])?;
         }
     }
-    for operation in [0, 8, 9, 127, 128, 255] {
+    for operation in [0, 9, 10, 127, 128, 255] {
         // What follows would be a good frame, but "after it nothing more is read".
         let mut bytes = vec![operation];
         bytes.extend(small_frames()[1].encode());
@@ -92,6 +93,8 @@ fn too_large() -> Vec<(Vec<u8>, &'static [u8])> {
     let check = |file, numbers| Request::Check { file: vec![0; file], numbers: vec![0; numbers] };
     let write = |lists, out| Request::Write { content: content(lists), out: vec![0; out] };
     let find = |file, rows| Request::Find { file: vec![0; file], scope: 0, block: 0, rows: vec![0; rows] };
+    let salvage =
+        |file, out, dropped| Request::Salvage { file: vec![0; file], out: vec![0; out], dropped: vec![0; dropped] };
     let whole = [
         trace(room::ACCESSES + 1, 0),
         trace(0, room::MARKS + 1),
@@ -105,9 +108,13 @@ fn too_large() -> Vec<(Vec<u8>, &'static [u8])> {
         write([0, 0, 0, 0, 0], room::OUT + 1),
         find(room::FILE + 1, 0),
         find(0, room::FOUND + 1),
+        salvage(room::WRECK + 1, 0, 0),
+        salvage(0, room::SALVAGED + 1, 0),
+        salvage(0, 0, room::DROPPED + 1),
     ];
     let mut frames: Vec<(Vec<u8>, &[u8])> = whole.iter().map(|frame| (frame.encode(), &[TOO_LARGE][..])).collect();
-    for (head, lengths) in [(&[4, 0, 1, 1][..], 8), (&[5], 8), (&[6, 1, 0, 1, 1], 24), (&[7, 0, 0, 0, 0], 8)] {
+    let heads = [(&[4, 0, 1, 1][..], 8), (&[5], 8), (&[6, 1, 0, 1, 1], 24), (&[7, 0, 0, 0, 0], 8), (&[8], 12)];
+    for (head, lengths) in heads {
         frames.push(([head, &vec![0xff; lengths]].concat(), &[CUT_SHORT, TOO_LARGE]));
     }
     frames
@@ -127,6 +134,8 @@ fn largest_frames(pipe: &Pipe) -> Result<(), String> {
         Request::Write { content: content([0; 5]), out: Vec::new() },
         Request::Find { file: vec![7; room::FILE], scope: 0, block: 7, rows: vec![7; room::FOUND] },
         Request::Find { file: Vec::new(), scope: 0, block: 0, rows: Vec::new() },
+        Request::Salvage { file: vec![7; room::WRECK], out: vec![7; room::SALVAGED], dropped: vec![7; room::DROPPED] },
+        Request::Salvage { file: Vec::new(), out: Vec::new(), dropped: Vec::new() },
     ];
     super::agree(pipe, &largest)?;
     println!("the largest and the smallest frames are answered");

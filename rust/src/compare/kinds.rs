@@ -8,7 +8,7 @@ use crate::machine::Geometry;
 /// Counts that show that the files were not all alike.
 #[derive(Default)]
 pub struct Kinds {
-    policies: [u64; 3],
+    policies: [u64; 4],
     ways: [u64; 9],
     one_set: u64,
     several_sets: u64,
@@ -45,7 +45,8 @@ impl Kinds {
     }
 
     pub fn report(&self) {
-        println!("sound files: {} LRU, {} FIFO, {} NMRU", self.policies[0], self.policies[1], self.policies[2]);
+        let [lru, fifo, nmru, tree] = self.policies;
+        println!("sound files: {lru} LRU, {fifo} FIFO, {nmru} NMRU, {tree} tree");
         println!("  with 1 to 8 ways: {:?}", &self.ways[1..]);
         println!("  with one set: {}, with several: {}", self.one_set, self.several_sets);
         println!("  with loops nested 0 to 7 deep: {:?}", self.depths);

@@ -11,6 +11,7 @@ pub mod frames;
 pub mod gathering;
 mod kinds;
 mod nests;
+pub mod salvages;
 pub mod walks;
 pub mod writes;
 
@@ -41,6 +42,8 @@ pub struct Settings {
     pub written: usize,
     /// Small graphs that facts are found in.
     pub searched: usize,
+    /// Files that are salvaged.
+    pub salvaged: usize,
     /// A program that writes the content of its input again by the library: for files that `pipe` has no room for.
     pub library: Option<Pipe>,
 }
@@ -76,6 +79,7 @@ impl<'a> Comparison<'a> {
             Request::Check { file, numbers } => file.len() + 8 * numbers.len(),
             Request::Write { content, out } => 2 * content.rows.len() + out.len(),
             Request::Find { file, rows, .. } => file.len() + 2 * rows.len(),
+            Request::Salvage { file, out, dropped } => file.len() + out.len() + 8 * dropped.len(),
             _ => 32,
         };
         self.waiting.push(request);

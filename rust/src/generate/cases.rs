@@ -67,7 +67,7 @@ impl Plan {
         if random.chance(60) {
             return plan;
         }
-        let policy = random.below(3) as u8;
+        let policy = random.below(4) as u8;
         Plan { blocks: 40, favourite: 0, skips: random.pick(&[0, 5]), machine: Some((policy, 8, 1)), ..plan }
     }
 

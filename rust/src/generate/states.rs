@@ -3,6 +3,15 @@
 use crate::machine::{block_or_none, Geometry, Policy, SetState, Shape, NONE};
 use crate::random::Random;
 
+/// How many patterns of bits are legal: those below this number.
+pub fn patterns(shape: Shape) -> usize {
+    match shape.policy {
+        Policy::Lru | Policy::Fifo => 1,
+        Policy::Nmru => (1 << shape.ways) - 1,
+        Policy::Tree => 1 << (shape.ways - 1),
+    }
+}
+
 /// A legal state over the given blocks: "Empty lines may stand anywhere below k."
 pub fn legal_state(random: &mut Random, shape: Shape, blocks: &[u16]) -> SetState {
     let mut state = SetState::EMPTY;
@@ -13,9 +22,7 @@ pub fn legal_state(random: &mut Random, shape: Shape, blocks: &[u16]) -> SetStat
             *line = left.swap_remove(random.below(left.len()));
         }
     }
-    if shape.policy == Policy::Nmru {
-        state.bits = random.below((1 << shape.ways) - 1) as u8;
-    }
+    state.bits = random.below(patterns(shape)) as u8;
     state
 }
 
@@ -29,8 +36,7 @@ pub fn damaged_state(random: &mut Random, shape: Shape, blocks: &[u16]) -> SetSt
             state.lines[other] = state.lines[one];
         }
         1 => state.lines[random.within(shape.ways.min(7)..=7)] = random.pick(blocks),
-        2 if shape.policy == Policy::Nmru => state.bits = random.within((1 << shape.ways) - 1..=255) as u8,
-        2 => state.bits = random.within(1..=255) as u8,
+        2 => state.bits = random.within(patterns(shape)..=255) as u8,
         _ => {
             state.lines = [(); 8].map(|()| if random.chance(30) { NONE } else { random.word() });
             state.bits = random.byte();

@@ -7,6 +7,7 @@ pub enum Policy {
     Lru = 0,
     Fifo = 1,
     Nmru = 2,
+    Tree = 3,
 }
 
 /// A policy and its number of ways.
@@ -17,23 +18,23 @@ pub struct Shape {
 }
 
 impl Shape {
-    /// "policy (0 LRU, 1 FIFO, 2 NMRU)"; "k ways (LRU, FIFO 1 to 8; NMRU 2 to 8)".
+    /// "policy (0 LRU, 1 FIFO, 2 NMRU)"; "k ways (LRU, FIFO 1 to 8; NMRU 2 to 8)". "Policy 3 is tree replacement with 2, 4 or 8
+    /// ways"; "3 for other numbers of ways or for policies above 3".
     pub fn read(policy: u8, ways: u8) -> Result<Shape, Refusal> {
-        let named = match policy {
-            0 => Some((Policy::Lru, 1)),
-            1 => Some((Policy::Fifo, 1)),
-            2 => Some((Policy::Nmru, 2)),
-            _ => None,
+        let (policy, offered) = match policy {
+            0 => (Policy::Lru, (1..=8).contains(&ways)),
+            1 => (Policy::Fifo, (1..=8).contains(&ways)),
+            2 => (Policy::Nmru, (2..=8).contains(&ways)),
+            3 => (Policy::Tree, [2, 4, 8].contains(&ways)),
+            _ => return Err(Refusal::new(3, 0)),
         };
-        match named {
-            Some((policy, fewest)) if (fewest..=8).contains(&ways) => Ok(Shape { policy, ways: ways.into() }),
-            _ => Err(Refusal::new(3, 0)),
-        }
+        demand(3, offered)?;
+        Ok(Shape { policy, ways: ways.into() })
     }
 
     /// Every policy number with every number of ways that it may have.
     pub fn all_numbers() -> Vec<(u8, u8)> {
-        let pairs = (0..=2).flat_map(|policy| (1..=8).map(move |ways| (policy, ways)));
+        let pairs = (0..=3).flat_map(|policy| (1..=8).map(move |ways| (policy, ways)));
         pairs.filter(|&(policy, ways)| Shape::read(policy, ways).is_ok()).collect()
     }
 }

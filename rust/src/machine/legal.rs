@@ -4,7 +4,8 @@ use super::{Policy, SetState, Shape};
 use std::collections::BTreeSet;
 
 /// "A state is legal if no block stands in two lines, the lines from k on are empty, and the bits are 0 for LRU and
-/// FIFO; for NMRU the bits from k on are 0 and at least one of the low k is 0."
+/// FIFO; for NMRU the bits from k on are 0 and at least one of the low k is 0." Of the tree: "A legal state has bits 0 from k-1
+/// on."
 pub fn legal(shape: Shape, state: &SetState) -> bool {
     let standing: Vec<u16> = state.blocks(8).flatten().collect();
     let distinct: BTreeSet<&u16> = standing.iter().collect();
@@ -17,5 +18,6 @@ fn legal_bits(shape: Shape, bits: u8) -> bool {
     match shape.policy {
         Policy::Lru | Policy::Fifo => bits == 0,
         Policy::Nmru => u32::from(bits) < 2u32.pow(shape.ways as u32) - 1,
+        Policy::Tree => u32::from(bits) < 2u32.pow(shape.ways as u32 - 1),
     }
 }

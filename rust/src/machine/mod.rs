@@ -1,5 +1,5 @@
-//! "The three machines". A set state crosses the pipe as eight lines and a byte of bits; inside, each policy has a
-//! representation of its own: LRU an age list, FIFO a queue, NMRU lines with flags.
+//! "The three machines", and the tree of item 9. A set state crosses the pipe as eight lines and a byte of bits; inside, each
+//! policy has a representation of its own: LRU an age list, FIFO a queue, NMRU lines with flags, the tree a tree.
 
 pub mod address;
 mod fifo;
@@ -9,6 +9,7 @@ mod lru;
 mod nmru;
 pub mod step;
 pub mod trace;
+mod tree;
 
 pub use geometry::{Geometry, Policy, Shape};
 pub use legal::legal;
@@ -64,5 +65,6 @@ pub fn load(shape: Shape, state: &SetState) -> Box<dyn CacheSet> {
         Policy::Lru => Box::new(lru::Lru::load(shape.ways, state)),
         Policy::Fifo => Box::new(fifo::Fifo::load(shape.ways, state)),
         Policy::Nmru => Box::new(nmru::Nmru::load(shape.ways, state)),
+        Policy::Tree => Box::new(tree::TreeSet::load(shape.ways, state)),
     }
 }

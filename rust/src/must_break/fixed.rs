@@ -21,6 +21,7 @@ pub fn all() -> Vec<Break> {
         visited_in_each_stay(),
         visited_in_each_stay(),
         left_early(),
+        tree_again(),
     ]
 }
 
@@ -63,6 +64,13 @@ fn nmru_thrice() -> Break {
     let mut start = SetState { bits: 2, ..SetState::EMPTY };
     start.lines[..3].copy_from_slice(&[7, 8, 9]);
     chain((2, 3), &[B, 1, 2, B, 1, B, 2, 3, B], 3, &rows, start)
+}
+
+/// Four ways. b misses into line 0; 1 and 2 take lines 2 and 1, and then all bits point to line 3; the hit of 1 at line 2 turns
+/// the root to the lower lines, where b stands and line 1 came last: 3 takes b's line.
+fn tree_again() -> Break {
+    let rows = [Row::NotSince, blocks(&[]), blocks(&[1]), blocks(&[1, 2]), blocks(&[1, 2]), blocks(&[1, 2, 3])];
+    chain((3, 4), &[B, 1, 2, 1, 3, B], 4, &rows, SetState::EMPTY)
 }
 
 /// The inner loop is entered once for each time around the outer one, and each time b has been lost.

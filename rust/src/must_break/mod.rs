@@ -1,7 +1,8 @@
 //! Wrong bounds, each of which some small file, walk and start content exceed: what the comparison of walks cannot show,
-//! since a bound that is merely too large passes all of them.
+//! since a bound that is merely too large passes all of them. And wrong salvages.
 
 mod fixed;
+mod salvages;
 mod search;
 mod wrong;
 
@@ -28,11 +29,13 @@ pub struct Wrong {
     pub rules: &'static dyn Rules,
 }
 
-/// Shows the fixed breaks; with `pipe`, also that `check` gives the right numbers on them, and that they come out again.
+/// Shows the fixed breaks; with `pipe`, also that `check` gives the right numbers on them, that they come out again, and that
+/// what a wrong salvage spoils is salvaged well.
 pub fn run(pipe: Option<&Pipe>) -> Result<(), String> {
     for (wrong, found) in wrong::ALL.iter().zip(fixed::all()) {
         println!("{}", examine(wrong, &found).map_err(|fault| format!("{}: {fault}", wrong.name))?);
     }
+    salvages::run()?;
     pipe.map_or(Ok(()), through)
 }
 
@@ -41,6 +44,10 @@ fn through(pipe: &Pipe) -> Result<(), String> {
     for file in fixed::all().iter().map(|found| found.draft.write()) {
         again.add(&file)?;
         agree(pipe, &[Request::Check { file, numbers: vec![0; NUMBERS] }])?;
+    }
+    for file in salvages::files() {
+        let (out, dropped) = (vec![165; file.len()], vec![7; 9]);
+        agree(pipe, &[Request::Salvage { file, out, dropped }])?;
     }
     again.finish()
 }

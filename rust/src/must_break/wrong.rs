@@ -5,7 +5,7 @@ use crate::case::{Graph, Paper, Rules, Scope, Stakes};
 use crate::machine::Policy;
 use std::collections::BTreeSet;
 
-pub const ALL: [Wrong; 10] = [
+pub const ALL: [Wrong; 11] = [
     Wrong { name: "LRU's fact bound E used for FIFO", rules: &LruForFifo },
     Wrong { name: "(l-1) times E for NMRU with l >= 3", rules: &FactorTooSmall },
     Wrong { name: "E for NMRU with l >= 3", rules: &FactorForgotten },
@@ -16,6 +16,7 @@ pub const ALL: [Wrong; 10] = [
     Wrong { name: "W used as B, for each stay: the lesser of W and B as header visits", rules: &WholeForStay },
     Wrong { name: "the outer loop's W for the loops inside it", rules: &OuterForInner },
     Wrong { name: "W/B entries", rules: &FullStays },
+    Wrong { name: "E for the tree with l = 2 + log2 k", rules: &TreeLimitTooLarge },
 ];
 
 struct LruForFifo;
@@ -110,5 +111,13 @@ impl Rules for FullStays {
             Scope::Loop(i) => graph.loops[i].visits.map_or(right, |most| right.min(most / graph.loops[i].bound)),
             Scope::Whole => right,
         }
+    }
+}
+
+struct TreeLimitTooLarge;
+
+impl Rules for TreeLimitTooLarge {
+    fn tree_limit(&self, ways: u128) -> u128 {
+        Paper.tree_limit(ways) + 1
     }
 }

@@ -37,6 +37,13 @@ pub enum Body {
         limit: u16,
         rows: Vec<u16>,
     },
+    /// "the file's length and how many facts were dropped (refused: 0 and 0)"
+    Salvage {
+        length: u64,
+        count: u64,
+        out: Vec<u8>,
+        dropped: Vec<u64>,
+    },
 }
 
 /// "A frame that cannot be answered ends the conversation. Its answer is the byte 0, then one byte that says why, then
@@ -76,6 +83,11 @@ impl Body {
             Request::Check { numbers, .. } => Body::Check { numbers: take_list(rest, numbers.len())? },
             Request::Write { out, .. } => Body::Write { length: take(rest)?, out: take_list(rest, out.len())? },
             Request::Find { rows, .. } => Body::Find { limit: take(rest)?, rows: take_list(rest, rows.len())? },
+            Request::Salvage { out, dropped, .. } => {
+                let (length, count) = (take(rest)?, take(rest)?);
+                let out = take_list(rest, out.len())?;
+                Body::Salvage { length, count, out, dropped: take_list(rest, dropped.len())? }
+            }
         })
     }
 }

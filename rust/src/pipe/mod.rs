@@ -23,4 +23,8 @@ pub mod room {
     pub const OUT: usize = 2_150_000;
     /// Numbers for the rows that are found.
     pub const FOUND: usize = 16_384;
+    /// Bytes of a file that is salvaged, of what is left of it, and numbers for the facts that are dropped.
+    pub const WRECK: usize = 1_048_576;
+    pub const SALVAGED: usize = 1_048_576;
+    pub const DROPPED: usize = 4_096;
 }

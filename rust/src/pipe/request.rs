@@ -13,6 +13,7 @@ pub enum Request {
     Check { file: Vec<u8>, numbers: Vec<u64> },
     Write { content: Content, out: Vec<u8> },
     Find { file: Vec<u8>, scope: u16, block: u16, rows: Vec<u16> },
+    Salvage { file: Vec<u8>, out: Vec<u8>, dropped: Vec<u64> },
 }
 
 impl Request {
@@ -25,6 +26,7 @@ impl Request {
             Request::Check { .. } => 5,
             Request::Write { .. } => 6,
             Request::Find { .. } => 7,
+            Request::Salvage { .. } => 8,
         }
     }
 
@@ -70,6 +72,12 @@ impl Request {
                 put_lengths([file.len(), rows.len()], &mut out);
                 out.extend_from_slice(file);
                 put_list(rows, &mut out);
+            }
+            Request::Salvage { file, out: lent, dropped } => {
+                put_lengths([file.len(), lent.len(), dropped.len()], &mut out);
+                out.extend_from_slice(file);
+                out.extend_from_slice(lent);
+                put_list(dropped, &mut out);
             }
         }
         out

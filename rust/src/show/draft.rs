@@ -43,7 +43,7 @@ fn visits(record: &LoopRecord) -> String {
 
 pub fn draft(draft: &Draft) -> String {
     let lists = &draft.lists;
-    let policy = ["LRU", "FIFO", "NMRU"].get(usize::from(draft.policy)).unwrap_or(&"no policy");
+    let policy = ["LRU", "FIFO", "NMRU", "tree"].get(usize::from(draft.policy)).unwrap_or(&"no policy");
     let nodes = lists.nodes.iter().enumerate().map(|(node, &number)| format!("{node} fetches {}", block(number)));
     let edges = lists.edges.iter().map(|(from, to)| format!("{from}-{to}"));
     let loops = lists.loops.iter().enumerate();

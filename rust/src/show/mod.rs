@@ -43,13 +43,16 @@ pub fn file(bytes: &[u8]) -> String {
     format!("{lists}  the file's {} bytes:\n{}", bytes.len(), hex(bytes))
 }
 
-/// A request in words, and its frame; of a check and a find the file alone, since their lists are noise.
+/// A request in words, and its frame; of a check, a find and a salvage the file alone, since their lists are noise.
 pub fn request(request: &Request) -> String {
     match request {
         Request::Check { file: bytes, numbers } => format!("check, {} numbers lent\n{}", numbers.len(), file(bytes)),
         Request::Write { content, out } => format!("write, {} bytes lent\n{}", out.len(), lists(content)),
         Request::Find { file: bytes, scope, block, rows } => {
             format!("find, scope {scope}, block {block}, {} numbers lent\n{}", rows.len(), file(bytes))
+        }
+        Request::Salvage { file: bytes, out, dropped } => {
+            format!("salvage, {} bytes and {} numbers lent\n{}", out.len(), dropped.len(), file(bytes))
         }
         other => format!("{}\n  the frame:\n{}", arguments(other), hex(&other.encode())),
     }
@@ -106,6 +109,17 @@ fn memory(own: &Body, other: &Body) -> String {
         }
         (Body::Find { limit, rows }, Body::Find { limit: other, rows: others }) => {
             format!("limit: second simulator {limit}, pipe {other}; {}", first_difference(rows, others))
+        }
+        (
+            Body::Salvage { length, count, out, dropped },
+            Body::Salvage { length: other_length, count: other_count, out: other_out, dropped: others },
+        ) => {
+            let lengths =
+                format!("length: second simulator {length}, pipe {other_length}; {}", first_difference(out, other_out));
+            format!(
+                "{lengths}\n  dropped: second simulator {count}, pipe {other_count}; {}",
+                first_difference(dropped, others)
+            )
         }
         _ => format!("second simulator {own:?}\n  pipe             {other:?}"),
     }

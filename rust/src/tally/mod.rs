@@ -34,8 +34,10 @@ fn extent(request: &Request, number: u8) -> Option<(u64, u64)> {
         Request::Trace { blocks, .. } if number == 21 => return Some((0, blocks.len() as u64)),
         Request::Check { file, .. } => claimed_numbers(file)?,
         Request::Write { content, .. } => content.numbers(),
-        // Past the graph's rules a finder has no places.
-        Request::Find { file, .. } if number <= 10 || number == 26 => claimed_numbers(file)?,
+        // Past the graph's rules a finder and a salvage have no places.
+        Request::Find { file, .. } | Request::Salvage { file, .. } if number <= 10 || number == 26 => {
+            claimed_numbers(file)?
+        }
         _ => return None,
     }
     .map(|number| number as u64);
@@ -54,7 +56,9 @@ fn extent(request: &Request, number: u8) -> Option<(u64, u64)> {
 /// The lists that the request is about, where they can be told apart.
 fn lists(request: &Request) -> Option<Draft> {
     match request {
-        Request::Check { file, .. } | Request::Find { file, .. } => Draft::skim(file).ok(),
+        Request::Check { file, .. } | Request::Find { file, .. } | Request::Salvage { file, .. } => {
+            Draft::skim(file).ok()
+        }
         Request::Write { content, .. } => content.draft(),
         _ => None,
     }
@@ -110,7 +114,7 @@ impl Tally {
     pub fn demand(&self, operation: u8, numbers: impl IntoIterator<Item = u8>, at_least: u64) -> Result<(), String> {
         for number in numbers {
             let places = self.get(operation, number);
-            let placed = matches!((operation, number), (5 | 6, 6..=18 | 24..=26) | (7, 6..=10 | 26) | (4, 21));
+            let placed = matches!((operation, number), (5 | 6, 6..=18 | 24..=26) | (7 | 8, 6..=10 | 26) | (4, 21));
             let fewest = places.first.min(places.middle).min(places.last);
             if places.count < at_least || placed && fewest * 10 < at_least {
                 return Err(format!(

@@ -7,7 +7,7 @@ use Rattle.facts.proofs.wrong_head.Tie as tie
 
 returns : tie.Need-returns
 unfolding wrongHead
-returns c = refl
+returns c = rw (c .before .wrong-scope .ensures) refl
 
 pub wrong-head-spec : {M : Type 1} → statement M
-wrong-head-spec = tie.close (tie.spec (λ c. search needs) returns)
+wrong-head-spec = tie.close (tie.spec (λ c κs. search needs) (λ c. search needs) returns)

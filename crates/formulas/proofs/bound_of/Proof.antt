@@ -16,7 +16,17 @@ returns-2 c = rw (boundOf, ne-eqb _ _ (c .before .before .if1 .left), eq-eqb _ _
 
 returns-3 : tie.Need-returns-3
 unfolding boundOf
-returns-3 c = rw (boundOf, ne-eqb _ _ (c .before .before .if1 .left), ne-eqb _ _ (c .before .if2 .left)) (c .nmru-bound .ensures)
+returns-3 c =
+    let d = c .before .before in
+    rw (boundOf, ne-eqb _ _ (d .before .if1 .left), ne-eqb _ _ (d .if2 .left), eq-eqb _ _ (c .before .if3 .taken)) (c .nmru-bound .ensures)
+
+returns-4 : tie.Need-returns-4
+unfolding boundOf
+returns-4 c =
+    let d = c .before .before in
+    rw (boundOf, ne-eqb _ _ (d .before .if1 .left), ne-eqb _ _ (d .if2 .left), ne-eqb _ _ (c .before .if3 .left)) (c .tree-bound .ensures)
 
 pub bound-of-spec : {M : Type 1} → statement M
-bound-of-spec = tie.close (tie.spec returns (λ c κs. search needs) returns-2 (λ c κs. search needs) returns-3)
+bound-of-spec =
+    tie.close
+    (tie.spec returns (λ c κs. search needs) returns-2 (λ c κs. search needs) returns-3 (λ c κs. search needs) returns-4)

@@ -3,11 +3,14 @@ use native.Mathlib.Omega.{arith}
 use borrow.Author.Needs.{needs}
 use Prim.Native.Nat.{ℕ, _+_, _^_, _<_}
 use mathlib.Core.Path.{_≡_, sym, _∙_, refl, ap, subst}
+use mathlib.Core.Bool.{true}
+use mathlib.Core.Logic.{_≢_}
 use borrow.Author.Tests.{eq-eqb, ne-eqb}
 use Rattle.paper.specs.declared.Line.{Line}
 use Rattle.paper.specs.declared.SetState.{SetState}
 use Rattle.paper.specs.declared.Shift.{Shift}
-use Rattle.paper.specs.Machines.{step, nmruStep}
+use Rattle.paper.specs.Machines.{offered, legal, step, nmruStep}
+use Rattle.paper.specs.Policies.{nmruPolicy, treePolicy}
 use Rattle.paper.specs.Ready.{Ready}
 use Rattle.paper.specs.Shifts.{shiftAt, lineFor}
 use Rattle.paper.proofs.Says.{says-true}
@@ -45,9 +48,22 @@ returns-2 : tie.Need-returns-2
 unfolding step
 returns-2 c = c .fifo .ensures ∙ sym (rw (step, ne-eqb _ _ (c .before .before .before .if1 .left), eq-eqb _ _ (c .before .before .if2 .taken)))
 
+step-alone-requires : tie.Need-step-alone-requires
+step-alone-requires c κs =
+    let s = c .before .before .before in
+    let e : s .args .policy ≡ treePolicy = omega (arith, c .if3 .taken) in
+    (subst (λ (p : ℕ). offered p (s .args .k) ≡ true) e (s .pre .0), (subst (λ (p : ℕ). legal p (s .args .k) (s .args .state) ≡ true) e (s .pre .1 .0), s .pre .1 .1))
+
+returns-3 : tie.Need-returns-3
+unfolding step
+returns-3 c =
+    let d = c .before .before in
+    let n : d .before .before .args .policy ≢ nmruPolicy = omega (arith, c .before .if3 .taken) in
+    c .step-alone .ensures ∙ sym (rw (step, ne-eqb _ _ (d .before .if1 .left), ne-eqb _ _ (d .if2 .left), ne-eqb _ _ n))
+
 line-requires : tie.Need-line-requires
 line-requires c κs =
-    let s = c .before .before in
+    let s = c .before .before .before in
     let o = says-true (says-offered _ _) (s .pre .0) in
     (legal-ready _ _ _ (s .pre .1 .0) o, (s .pre .1 .1, nmru-bits _ _ _ (s .pre .1 .0) (omega (arith, o .known))))
 
@@ -58,37 +74,39 @@ Asked s b line k = Ready k (s .lines) × ((s .bits + 1 < 2 ^ k) × (line ≡ lin
 step-of-eight-requires : tie.Need-step-of-eight-requires
 step-of-eight-requires c κs =
     let l = c .before in
-    let s = l .before .before .before in
+    let s = l .before .before .before .before in
     let o = says-true (says-offered _ _) (s .pre .0) in
-    let e : s .args .k ≡ 8 = omega (arith, c .if3 .taken) in
+    let e : s .args .k ≡ 8 = omega (arith, c .if4 .taken) in
     subst
     (Asked (s .args .state) (s .args .block .0) (l .line .result))
     e
     (legal-ready _ _ _ (s .pre .1 .0) o, (nmru-bits _ _ _ (s .pre .1 .0) (omega (arith, o .known)), l .line .ensures))
 
-returns-3 : tie.Need-returns-3
+-- a policy that is none of the others is NMRU, and its step is NMRU's
+nmru-is : (c : tie.Else3) → let a = c .before .before .before .args in nmruStep (a .k) (a .state) (a .block .0) ≡ step (a .policy) (a .k) (a .state) (a .block .0)
 unfolding step
-returns-3 c =
+nmru-is c =
+    let d = c .before in
+    let s = d .before .before in
+    let e : s .args .policy ≡ nmruPolicy = omega (arith, c .if3 .left, d .if2 .left, d .before .if1 .left, says-true (says-offered _ _) (s .pre .0) .known) in
+    sym (rw (step, ne-eqb _ _ (d .before .if1 .left), ne-eqb _ _ (d .if2 .left), eq-eqb _ _ e))
+
+returns-4 : tie.Need-returns-4
+returns-4 c =
     let d = c .before .before .before in
-    let a = d .before .before .args in
-    let e : 8 ≡ a .k = omega (arith, c .before .if3 .taken) in
-    c .step-of-eight .ensures
-    ∙ ap (λ (k : ℕ). nmruStep k (a .state) (a .block .0)) e
-    ∙ sym (rw (step, ne-eqb _ _ (d .before .if1 .left), ne-eqb _ _ (d .if2 .left)))
+    let a = d .before .before .before .args in
+    let e : 8 ≡ a .k = omega (arith, c .before .if4 .taken) in
+    c .step-of-eight .ensures ∙ ap (λ (k : ℕ). nmruStep k (a .state) (a .block .0)) e ∙ nmru-is d
 
 nmru-requires : tie.Need-nmru-requires
 nmru-requires c κs =
     let l = c .before .before .before in
-    let s = l .before .before .before in
+    let s = l .before .before .before .before in
     let o = says-true (says-offered _ _) (s .pre .0) in
     (legal-ready _ _ _ (s .pre .1 .0) o, (nmru-bits _ _ _ (s .pre .1 .0) (omega (arith, o .known)), (l .line .ensures, c .before .next-bits .ensures)))
 
-returns-4 : tie.Need-returns-4
-unfolding step
-returns-4 c =
-    let l = c .before .before .before .before in
-    let d = l .before in
-    c .nmru .ensures ∙ sym (rw (step, ne-eqb _ _ (d .before .if1 .left), ne-eqb _ _ (d .if2 .left)))
+returns-5 : tie.Need-returns-5
+returns-5 c = c .nmru .ensures ∙ nmru-is (c .before .before .before .before .before)
 
 pub take-step-spec : {M : Type 1} → statement M
 take-step-spec =
@@ -101,9 +119,11 @@ take-step-spec =
     kept-from-requires
     fifo-requires
     returns-2
+    step-alone-requires
+    returns-3
     line-requires
     step-of-eight-requires
-    returns-3
+    returns-4
     (λ c κs. search needs)
     nmru-requires
-    returns-4)
+    returns-5)

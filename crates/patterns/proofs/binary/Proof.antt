@@ -10,16 +10,16 @@ use Rattle.patterns.proofs.binary.Statement.{statement}
 use Rattle.patterns.proofs.binary.Tie as tie
 
 abbrev Inv-loop : tie.InvT-loop
-Inv-loop out₀ at bits to₀ i₀ out to i = (Left out₀ at (binary bits 8) out to (binary bits i)) × (i ≤ 8)
+Inv-loop out₀ at bits w to₀ i₀ out to i = (Left out₀ at (binary bits w) out to (binary bits i)) × (i ≤ 8)
 
 abbrev μ-loop : tie.MeasureT-loop
-μ-loop out₀ at bits to₀ i₀ out to i = i
+μ-loop out₀ at bits w to₀ i₀ out to i = i
 
 -- there is room for what is left
 room : tie.Need-slice-write-out Inv-loop μ-loop
 room c =
     let l = c .before .loop in
-    omega (arith, left-fits (c .before .before .pre) (l .inv .0) .room, binary-length (c .before .before .args .bits) (l .i), c .loop-test .taken)
+    omega (arith, left-fits (c .before .before .pre .1) (l .inv .0) .room, binary-length (c .before .before .args .bits) (l .i), c .loop-test .taken)
 
 loop-again : tie.Need-loop-again Inv-loop μ-loop
 unfolding bitAt

@@ -2,7 +2,7 @@
 use native.Mathlib.Omega.{arith}
 use mathlib.Core.Path.{_≡_, sym}
 use borrow.Author.Needs.{needs}
-use Rattle.paper.specs.Policies.{nmruPolicy}
+use Rattle.paper.specs.Policies.{treePolicy}
 use Rattle.paper.proofs.Says.{says-true}
 use Rattle.paper.proofs.States.{says-offered}
 use Rattle.runs.proofs.Going.{runs-at, ran-at}
@@ -21,17 +21,23 @@ fifo-run-requires c κs = runs-at (c .before .if2 .taken) (c .before .before .be
 returns-2 : tie.Need-returns-2
 returns-2 c = ran-at (sym (c .before .before .before .before .if2 .taken)) (c .before .before .fifo-run .ensures)
 
--- a policy that is neither LRU nor FIFO is NMRU
-neither : (c : tie.Else2) → let s = c .before .before .before .before in s .args .policy ≡ nmruPolicy
-neither c =
-    let s = c .before .before .before .before in
-    omega (arith, c .before .if1 .left, c .if2 .left, says-true (says-offered _ _) (s .pre .offers) .known)
-
 nmru-run-requires : tie.Need-nmru-run-requires
-nmru-run-requires c κs = runs-at (neither (c .before)) (c .before .before .before .before .before .pre)
+nmru-run-requires c κs = runs-at (c .before .if3 .taken) (c .before .before .before .before .before .before .pre)
 
 returns-3 : tie.Need-returns-3
-returns-3 c = ran-at (sym (neither (c .before .before .before .before))) (c .before .before .nmru-run .ensures)
+returns-3 c = ran-at (sym (c .before .before .before .before .if3 .taken)) (c .before .before .nmru-run .ensures)
+
+-- a policy that is none of the others is the tree
+last : (c : tie.Else3) → let s = c .before .before .before .before .before in s .args .policy ≡ treePolicy
+last c =
+    let s = c .before .before .before .before .before in
+    omega (arith, c .before .before .if1 .left, c .before .if2 .left, c .if3 .left, says-true (says-offered _ _) (s .pre .offers) .known)
+
+tree-run-requires : tie.Need-tree-run-requires
+tree-run-requires c κs = runs-at (last (c .before)) (c .before .before .before .before .before .before .pre)
+
+returns-4 : tie.Need-returns-4
+returns-4 c = ran-at (sym (last (c .before .before .before .before))) (c .before .before .tree-run .ensures)
 
 pub run-spec : {M : Type 1} → statement M
 run-spec =
@@ -45,4 +51,7 @@ run-spec =
     returns-2
     nmru-run-requires
     (λ c. search needs)
-    returns-3)
+    returns-3
+    tree-run-requires
+    (λ c. search needs)
+    returns-4)

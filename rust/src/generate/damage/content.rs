@@ -37,11 +37,11 @@ pub fn spoil(random: &mut Random, draft: &Draft, rules: &[u8]) -> Content {
 
 fn spoil_machine(random: &mut Random, content: &mut Content) {
     match random.below(4) {
-        0 => content.policy = random.pick(&[3, 255]),
+        0 => content.policy = random.pick(&[4, 255]),
         1 => content.ways = random.pick(&[0, 9, 255]),
         2 => content.sets = random.pick(&[0, 65, 255]),
-        // "NMRU with one way: 3."
-        _ => (content.policy, content.ways) = (2, 1),
+        // "NMRU with one way: 3." The tree has 2, 4 or 8.
+        _ => (content.policy, content.ways) = random.pick(&[(2, 1), (3, 1), (3, 5), (3, 7)]),
     }
 }
 

@@ -45,10 +45,11 @@ fn shorten(random: &mut Random, file: &mut Vec<u8>) {
 }
 
 fn spoil_machine(random: &mut Random, file: &mut [u8]) {
-    let faults = [(POLICY, 3), (POLICY, 255), (WAYS, 0), (WAYS, 9), (WAYS, 255), (SETS, 0), (SETS, 65), (SETS, 255)];
-    if random.chance(20) {
-        // "NMRU with one way: 3."
-        patch(file, POLICY, |bytes| bytes[..2].copy_from_slice(&[2, 1]));
+    let faults = [(POLICY, 4), (POLICY, 255), (WAYS, 0), (WAYS, 9), (WAYS, 255), (SETS, 0), (SETS, 65), (SETS, 255)];
+    if random.chance(30) {
+        // "NMRU with one way: 3." The tree has 2, 4 or 8.
+        let machine = random.pick(&[[2, 1], [3, 1], [3, 3], [3, 6]]);
+        patch(file, POLICY, |bytes| bytes[..2].copy_from_slice(&machine));
     } else {
         let (field, value) = random.pick(&faults);
         patch(file, field, |bytes| bytes[0] = value);

@@ -5,12 +5,15 @@ mod content;
 mod facts;
 mod graph;
 mod layout;
+mod several;
 
 use crate::case::{Draft, NUMBERS};
 use crate::random::Random;
 
 pub use bytes::scatter;
 pub use content::{spoil, stir, WRITTEN};
+pub use facts::cut;
+pub use several::several;
 
 /// Every rule that a check can find broken, in its order: but 20, which is about the lent list, and 17, 24 and 25, which
 /// are of one place.
@@ -18,6 +21,9 @@ pub const RULES: [u8; 23] = [1, 2, 3, 4, 5, 6, 7, 8, 9, 26, 10, 11, 12, 13, 14, 
 
 /// Every rule that the finder can find broken, in its order.
 pub const FOUND: [u8; 14] = [1, 2, 3, 4, 5, 6, 7, 8, 9, 26, 10, 12, 14, 20];
+
+/// Every rule that a salvage can find broken, in its order: 20 is about both lent lists.
+pub const SALVAGED: [u8; 12] = [1, 2, 3, 4, 5, 6, 7, 8, 9, 26, 10, 20];
 
 /// Where among several the fault shall lie.
 #[derive(Clone, Copy, Debug, PartialEq)]

@@ -1,0 +1,4 @@
+pub mod SaidTexts
+pub mod Rooms
+pub mod Saving
+pub mod SavedOnce
