@@ -89,9 +89,9 @@ fn scattered(random: &mut Random, draft: &Draft) -> Vec<u8> {
     [graph, &facts, &trailer].concat()
 }
 
-/// A fault of the graph, and often of a fact as well.
+/// A fault of the graph, and often of a fact as well. 10 has two turns: a W may bring a count back, and other faults come before it.
 fn refused(random: &mut Random, draft: &Draft, turn: usize) -> Vec<u8> {
-    let of_graph = &SALVAGED[..SALVAGED.len() - 1];
+    let of_graph: Vec<u8> = SALVAGED.into_iter().filter(|&rule| rule != 20).chain([10]).collect();
     let mut rules = vec![of_graph[turn % of_graph.len()], random.pick(&RULES)];
     rules.dedup();
     rules.truncate(random.within(1..=2));
