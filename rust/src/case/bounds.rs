@@ -52,27 +52,30 @@ impl<'a> Ledger<'a> {
         });
         let (geometry, interruptions) = (*geometry, interruptions.into());
         let mut ledger = Ledger { rules, geometry, interruptions, fetchers: fetchers.collect(), charges: Vec::new() };
-        ledger.charges = facts.iter().enumerate().map(|(i, fact)| ledger.charge(i, fact, graph)).collect();
+        let set_of = |fact: &Fact| geometry.set_of(fact.block);
+        let before = |i: usize| facts[..i].iter().filter(|fact| set_of(fact) == set_of(&facts[i])).count();
+        ledger.charges = (0..facts.len()).map(|i| ledger.charge(i, &facts[i], graph, before(i))).collect();
         ledger
     }
 
     /// "For a fact: E is its entries, N the sum of counts of its nodes that fetch b", and in place of E the lesser of E + p
     /// and N is charged.
-    fn charge(&self, i: usize, fact: &Fact, graph: &Graph) -> Charge {
+    fn charge(&self, i: usize, fact: &Fact, graph: &Graph, before_in_set: usize) -> Charge {
         let covered = self.fetchers.iter().filter(|fetcher| fetcher.fact == Some(i));
         let fetches = covered.map(|fetcher| fetcher.count).sum();
         let entries = self.rules.entries(graph, fact.scope);
+        let interruptions = self.rules.interruptions(self.interruptions, before_in_set);
         let stakes = Stakes {
             policy: self.geometry.shape.policy,
             ways: self.geometry.shape.ways as u128,
             limit: fact.limit as u128,
-            entries: self.rules.entered(entries, self.interruptions, fetches),
+            entries: self.rules.entered(entries, interruptions, fetches),
             fetches,
         };
         Charge {
             set: self.geometry.set_of(fact.block),
             limit: stakes.limit,
-            entries: self.rules.entered_in_m(entries, self.interruptions, fetches),
+            entries: self.rules.entered_in_m(entries, interruptions, fetches),
             bound: self.rules.fact_bound(stakes),
         }
     }

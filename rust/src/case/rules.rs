@@ -31,6 +31,11 @@ pub trait Rules {
         }
     }
 
+    /// p, which is every fact's: also of those that are not the first of their set.
+    fn interruptions(&self, most: u128, _before_in_set: usize) -> u128 {
+        most
+    }
+
     /// "Every fact's E becomes the lesser of E + p and N, in fact bounds and in M(l), for each policy."
     fn entered(&self, entries: u128, interruptions: u128, fetches: u128) -> u128 {
         fetches.min(entries + interruptions)

@@ -37,9 +37,9 @@ struct Seen {
     interrupted: u64,
     all_used: u64,
     past_none: u64,
-    /// Bounds of files with p from 1 on that are larger than without interruptions, and those of them that were reached.
+    /// Bounds of files with p from 1 on that are larger than without interruptions, and those of them that were reached, by policy.
     raised: u64,
-    raised_reached: u64,
+    raised_reached: [u64; 4],
 }
 
 /// How often each kind of W, and of interrupted walk, must be seen.
@@ -80,7 +80,7 @@ impl Seen {
         println!("  walks that visit a header as often as W allows: {used_up}");
         let Seen { interruptions, interrupted, all_used, past_none, raised, raised_reached, .. } = self;
         println!("  {interruptions} interruptions; walks with some: {interrupted}, with p: {all_used}, with more misses than without any are allowed: {past_none}");
-        println!("  bounds that p raises: {raised}, {raised_reached} of them were reached");
+        println!("  bounds that p raises: {raised}; of them were reached, for LRU, FIFO, NMRU and the tree: {raised_reached:?}");
     }
 
     /// A walk, and the bounds where nothing interrupts it.
@@ -101,8 +101,13 @@ impl Seen {
         if self.used_up < AT_LEAST {
             return Err("too few walks used up a W".to_string());
         }
-        let enough = [self.interrupted, self.all_used, self.past_none, self.raised_reached];
-        enough.iter().all(|&seen| seen >= AT_LEAST).then_some(()).ok_or("too few walks were interrupted".to_string())
+        let interrupted = [self.interrupted, self.all_used, self.past_none];
+        interrupted
+            .iter()
+            .chain(&self.raised_reached)
+            .all(|&seen| seen >= AT_LEAST)
+            .then_some(())
+            .ok_or("too few walks were interrupted".to_string())
     }
 }
 
@@ -162,6 +167,7 @@ fn walk_through(
     seen.reached += most.reaching(&bounds).count() as u64;
     let raised = |measure: &Measure| measure.bound > measure.of.among(&without);
     seen.raised += most.beside(&bounds).filter(raised).count() as u64;
-    seen.raised_reached += most.reaching(&bounds).filter(raised).count() as u64;
+    let policy = case.geometry.shape.policy as usize;
+    seen.raised_reached[policy] += most.reaching(&bounds).filter(raised).count() as u64;
     Ok(())
 }

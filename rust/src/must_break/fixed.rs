@@ -25,6 +25,7 @@ pub fn all() -> Vec<Break> {
         tree_again(),
         interrupted(0),
         interrupted(1),
+        both_lost(),
     ]
 }
 
@@ -133,6 +134,29 @@ fn interrupted(policy: u8) -> Break {
     Break {
         draft: Draft { version: 1, policy, ways: 2, sets: 1, lists, facts },
         walk: vec![0, 0, 0],
+        contents: vec![SetState::EMPTY],
+        interruptions: vec![Interruption { after: 2, left: vec![SetState::EMPTY] }],
+    }
+}
+
+/// Two blocks, each with a fact: a handler leaves neither of them, and both miss once more.
+fn both_lost() -> Break {
+    const OTHER: u16 = 20;
+    let fact = |block, rows: [Row; 4]| FactRecord {
+        scope: WHOLE_GRAPH,
+        block,
+        limit: 2,
+        rows: rows.iter().map(Row::record).collect(),
+    };
+    let nodes = vec![B, OTHER, B, OTHER];
+    let lists = Lists { edges: steps(nodes.len() as u16).collect(), nodes, loops: Vec::new() };
+    let facts = vec![
+        fact(B, [Row::NotSince, blocks(&[]), blocks(&[OTHER]), blocks(&[])]),
+        fact(OTHER, [Row::NotSince, Row::NotSince, blocks(&[]), blocks(&[B])]),
+    ];
+    Break {
+        draft: Draft { version: 1, policy: 0, ways: 2, sets: 1, lists, facts },
+        walk: vec![0, 1, 2, 3],
         contents: vec![SetState::EMPTY],
         interruptions: vec![Interruption { after: 2, left: vec![SetState::EMPTY] }],
     }
