@@ -12,7 +12,8 @@ uint8_t hand_trace_run(uint8_t policy, uint8_t ways, uint8_t sets, const uint16_
 
 uint8_t plain_step(uint8_t policy, uint8_t ways, uint16_t lines[8], uint8_t *bits, uint16_t block);
 
-uint8_t plain_check(const uint8_t *file, size_t file_length, uint64_t *numbers, size_t numbers_length, uint64_t *place, uint64_t *second);
+uint8_t plain_check(const uint8_t *file, size_t file_length, uint16_t interruptions, uint64_t *numbers, size_t numbers_length, uint64_t *place,
+                    uint64_t *second);
 
 uint8_t plain_write(uint8_t version, uint8_t policy, uint8_t ways, uint8_t sets, const uint16_t *nodes, size_t nodes_length,
                     const uint16_t *edges, size_t edges_length, const uint32_t *loops, size_t loops_length, const uint16_t *heads,

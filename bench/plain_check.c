@@ -4,7 +4,7 @@
 
 enum { NUMBERS = 321, SETS_AT = 1, FACTS_AT = 65 };
 
-/* What a fact is charged: the lesser of E and N, and N. */
+/* What a fact is charged: the lesser of E + p and N, and N. */
 struct charge {
     uint64_t entries, visits;
 };
@@ -17,16 +17,17 @@ struct sums {
 
 struct check {
     struct graph g;
+    uint64_t interruptions;    /* p: at most so many */
     uint8_t limit[MOST_NODES]; /* of the fact that covers the node, 0 for none */
     struct sums sums[MOST_SETS];
     uint64_t numbers[NUMBERS];
     uint64_t second;
 };
 
-/* Rule 14, and N: how often the nodes of the scope that fetch b are visited. "every bound uses the lesser of E and N in place of E" */
+/* Rule 14, and N: how often the nodes of the scope that fetch b are visited. "Every fact's E becomes the lesser of E + p and N" */
 static int find_charge(struct check *c, unsigned scope, const struct fact *f, struct charge *due)
 {
-    uint64_t entries = scope == WHOLE ? 1 : c->g.loop[scope].entries;
+    uint64_t entries = (scope == WHOLE ? 1 : c->g.loop[scope].entries) + c->interruptions;
     due->visits = 0;
     for (unsigned v = f->first; v <= f->last; v++)
         if (block_at(&c->g, v) == f->block) {
@@ -121,11 +122,13 @@ static void bound_sets(struct check *c)
     }
 }
 
-uint8_t plain_check(const uint8_t *file, size_t file_length, uint64_t *numbers, size_t numbers_length, uint64_t *place, uint64_t *second)
+uint8_t plain_check(const uint8_t *file, size_t file_length, uint16_t interruptions, uint64_t *numbers, size_t numbers_length, uint64_t *place,
+                    uint64_t *second)
 {
     struct check c;
     memset(&c, 0, sizeof c);
     c.g.file = file;
+    c.interruptions = interruptions;
     unsigned number = numbers_length < NUMBERS ? 20 : read_trailer(&c.g, file_length);
     if (number == 0)
         number = check_graph(&c.g);

@@ -27,7 +27,7 @@ static uint64_t write_file(void)
 static void check_file(uint64_t length)
 {
     uint64_t numbers[BOLGVERK_NUMBERS], place, second;
-    uint8_t refused = bolgverk_check(file, length, numbers, BOLGVERK_NUMBERS, &place, &second);
+    uint8_t refused = bolgverk_check(file, length, 0, numbers, BOLGVERK_NUMBERS, &place, &second);
     printf("check: refused %u, total %lu, sets", refused, numbers[0]);
     for (unsigned q = 0; q < SETS; q++)
         printf(" %lu", numbers[1 + q]);

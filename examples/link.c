@@ -1,4 +1,4 @@
-/* Checks the case file on standard input and prints its listing, as the program `bounds` does. README.md says how to link it. */
+/* Checks the case file on standard input and prints its listing, as the program `bounds` does: without interruptions. README.md says how to link it. */
 #include <bolgverk.h>
 #include <stdio.h>
 
@@ -11,7 +11,7 @@ int main(void)
     size_t length = fread(file, 1, sizeof file, stdin);
     if (length > 65536)
         return printf("refused 28 0 0\n") < 0;
-    uint8_t refused = bolgverk_check(file, length, numbers, BOLGVERK_NUMBERS, &place, &second);
+    uint8_t refused = bolgverk_check(file, length, 0, numbers, BOLGVERK_NUMBERS, &place, &second);
     if (refused)
         return printf("refused %u %lu %lu\n", refused, place, second) < 0;
     unsigned sets = file[length - 6], facts = file[length - 10] + 256u * file[length - 9];

@@ -10,7 +10,7 @@ static uint8_t file[65536], rest[65536];
 static void check_file(const uint8_t *bytes, size_t length)
 {
     uint64_t numbers[BOLGVERK_NUMBERS], place, second;
-    uint8_t refused = bolgverk_check(bytes, length, numbers, BOLGVERK_NUMBERS, &place, &second);
+    uint8_t refused = bolgverk_check(bytes, length, 0, numbers, BOLGVERK_NUMBERS, &place, &second);
     if (refused)
         printf("check: refused %u %lu %lu\n", refused, place, second);
     else

@@ -1,4 +1,5 @@
-/* Writes a case file from lists and has it checked: the file of examples/paper.case. Then the same lists with a row too few, which the writer refuses.
+/* Writes a case file from lists and has it checked, without interruptions and with one: the file of examples/paper.case. Then the same lists with a row too few,
+ * which the writer refuses.
  * README.md says how to link it. */
 #include <bolgverk.h>
 #include <stdio.h>
@@ -33,8 +34,10 @@ int main(void)
     static const uint16_t whole[4 * FACTS] = {0, 5, 2, 2, 0, 6, 2, 2}, uneven[4 * FACTS] = {0, 5, 2, 3, 0, 6, 2, 1};
     uint64_t numbers[BOLGVERK_NUMBERS], place, second;
     uint64_t length = write_file(whole);
-    uint8_t refused = bolgverk_check(file, length, numbers, BOLGVERK_NUMBERS, &place, &second);
-    printf("check: refused %u, total %lu\n", refused, numbers[0]);
+    for (uint16_t interruptions = 0; interruptions <= 1; interruptions++) {
+        uint8_t refused = bolgverk_check(file, length, interruptions, numbers, BOLGVERK_NUMBERS, &place, &second);
+        printf("check, %u interruptions: refused %u, total %lu\n", interruptions, refused, numbers[0]);
+    }
     write_file(uneven);
     return 0;
 }

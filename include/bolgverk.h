@@ -23,15 +23,19 @@ extern "C" {
 /* How many numbers an accepted case file has: the total, 64 set bounds, 256 fact bounds. */
 #define BOLGVERK_NUMBERS 321
 
-/* Checks a case file of any length and bounds its misses.
+/* Checks a case file of any length and bounds its misses: on every walk from node 0 that keeps the loop limits, whatever legal content the
+ * cache has at the start, and after each interruption. Misses of whatever interrupts are not counted.
  *   file, file_length        the file's bytes; only read
+ *   interruptions            how often a walk is interrupted at most, before its first fetch, between any two, or after its last; 0 if
+ *                            never. An interruption may leave any legal content in any set. No number is refused
  *   numbers, numbers_length  gets the 321 numbers, if the file is accepted: [0] the total, [1 + q] the bound of set q, [65 + i] the
  *                            bound of fact i, 0 where there is no such set or fact; numbers past the 321st stay as they are
  *   place                    gets the refusal's place, 0 if the file is accepted; always written
  *   second                   gets the refusal's second place: for 16 and 18 the node, for 17, 24 and 25 the edge, else 0; always written
  * Returns 0 if the file is accepted, else the refusal's number: 20 first, then 1 to 10 (26 after 9), then 11 to 18 fact by fact (24
  * and 25 together with 17, by the least edge), then 19. */
-uint8_t bolgverk_check(const uint8_t *file, size_t file_length, uint64_t *numbers, size_t numbers_length, uint64_t *place, uint64_t *second);
+uint8_t bolgverk_check(const uint8_t *file, size_t file_length, uint16_t interruptions, uint64_t *numbers, size_t numbers_length,
+                       uint64_t *place, uint64_t *second);
 
 /* Writes a case file from lists. It does not sort: what a layout rule forbids it refuses. What it writes passes those rules and reads back
  * as the same lists; and the lists of a file that passes them make the same file again.

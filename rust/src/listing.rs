@@ -9,16 +9,16 @@ pub const LONGEST_INPUT: usize = 65_536;
 
 /// "Each line: word, number of the set or fact, bound. Every set up to S is listed. A refusal prints `refused`, number,
 /// place", and then its second place.
-pub fn listing(input: &[u8]) -> String {
-    match bounds(input) {
+pub fn listing(input: &[u8], interruptions: u16) -> String {
+    match bounds(input, interruptions) {
         Ok(Bounds { total, sets, facts }) => format!("total {total}\n{}{}", lines("set", &sets), lines("fact", &facts)),
         Err(Refusal { number, place, second }) => format!("refused {number} {place} {second}\n"),
     }
 }
 
-fn bounds(input: &[u8]) -> Result<Bounds, Refusal> {
+fn bounds(input: &[u8], interruptions: u16) -> Result<Bounds, Refusal> {
     demand(28, input.len() <= LONGEST_INPUT)?;
-    Ok(judge(input, &Paper)?.bounds)
+    Ok(judge(input, &Paper)?.bounds(interruptions, &Paper))
 }
 
 fn lines(word: &str, bounds: &[u128]) -> String {

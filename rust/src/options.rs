@@ -11,13 +11,13 @@ Compares the proved operations, over `pipe`, and the program `bounds` with the s
 parts:
   caches      trace runs, single steps, addresses, set numbers
   frames      frames that cannot be answered
-  files       case files, sound and damaged: verdicts, places and bounds
+  files       case files, sound and damaged: verdicts, places, and bounds for any number of interruptions
   writes      contents, sound and damaged: the files that are written, and refusals
   bounds      what the program `bounds` prints for case files, sound, damaged and too long
   evidence    evidence exists exactly when it should
   finds       facts that are found in graphs without them: limits and rows, and refusals
   salvages    files with several bad facts, cut ones and strays: what is left of them, what is dropped, and refusals
-  walks       no walk through an accepted file misses more than its bounds say
+  walks       no walk through an accepted file, interrupted at most p times, misses more than its bounds for p say
   must-break  wrong bounds, each with a file, a walk and a content that exceed it, and wrong salvages (`pipe` may be left out)
   search      looks for such files anew, with random walks (needs no `pipe`)
   all         all of these but search

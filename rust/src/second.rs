@@ -25,9 +25,9 @@ pub fn answer(request: &Request) -> Answer {
             let refused = Body::Trace { misses: 0, marks: marks.clone() };
             outcome(run, refused, |misses| Body::Trace { misses, marks: after })
         }
-        Request::Check { file, numbers } => {
+        Request::Check { interruptions, file, numbers } => {
             let mut after = numbers.clone();
-            let verdict = check(file, &mut after, &Paper);
+            let verdict = check(file, *interruptions, &mut after, &Paper);
             outcome(verdict, Body::Check { numbers: numbers.clone() }, |_| Body::Check { numbers: after })
         }
         Request::Write { content, out } => {

@@ -12,6 +12,6 @@ fn the_examples_are_listed_so() {
     assert!(!cases.is_empty());
     for case in cases {
         let kept = fs::read_to_string(case.with_extension("listing")).unwrap();
-        assert_eq!(listing(&fs::read(&case).unwrap()), kept, "{}", case.display());
+        assert_eq!(listing(&fs::read(&case).unwrap(), 0), kept, "{}", case.display());
     }
 }

@@ -96,7 +96,7 @@ fn refusals() {
 #[test]
 fn version_1_is_without_w() {
     let lists = nest(&[(3, 1), (4, 2)]);
-    let total = |draft: &Draft| judge(&draft.write(), &Paper).ok().map(|case| case.bounds.total);
+    let total = |draft: &Draft| judge(&draft.write(), &Paper).ok().map(|case| case.bounds(0, &Paper).total);
     assert_eq!(total(&draft(1, lists.clone())), Some(15));
     assert_eq!(total(&draft(2, lists)), Some(3));
     assert_eq!(total(&draft(2, nest(&[(3, NO_LIMIT), (4, NO_LIMIT)]))), Some(15));
@@ -114,7 +114,8 @@ fn fewer_fetches_than_entries() {
         let file = Draft { policy, ways: 4, facts, ..draft(2, lists) }.write();
         let case = judge(&file, &Paper).ok().unwrap();
         assert_eq!(Paper.entries(&case.graph, Scope::Loop(1)), 1_000);
-        assert_eq!((case.bounds.total, &case.bounds.facts[..]), (3, &[3][..]));
+        let bounds = case.bounds(0, &Paper);
+        assert_eq!((bounds.total, &bounds.facts[..]), (3, &[3][..]));
     }
 }
 
@@ -171,7 +172,7 @@ fn walks_keep_w() {
         let mut walker = Walker::new(case, &[SetState::EMPTY]);
         walk.iter().for_each(|&node| walker.visit(node));
         assert_eq!(walker.misses.total, 10);
-        assert_eq!(!walker.misses.exceeding(&case.bounds).is_empty(), exceeds);
+        assert_eq!(!walker.misses.exceeding(&case.bounds(0, &Paper)).is_empty(), exceeds);
     }
 }
 

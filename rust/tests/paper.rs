@@ -76,12 +76,12 @@ fn number_6() {
     let file = listing(1, 10).write();
     assert_eq!(file.len(), 140);
     let mut numbers = [9; NUMBERS + 2];
-    assert_eq!(check(&file, &mut numbers, &Paper), Ok(()));
+    assert_eq!(check(&file, 0, &mut numbers, &Paper), Ok(()));
     let mut expected = [0; NUMBERS + 2];
     (expected[0], expected[1], expected[65], expected[66]) = (4, 4, 5, 5);
     expected[NUMBERS..].fill(9);
     assert_eq!(numbers, expected);
-    let total = |policy| judge(&listing(policy, 10).write(), &Paper).ok().map(|case| case.bounds.total);
+    let total = |policy| judge(&listing(policy, 10).write(), &Paper).ok().map(|case| case.bounds(0, &Paper).total);
     assert_eq!([total(0), total(2)], [Some(2), Some(2)]);
 }
 

@@ -73,7 +73,7 @@ fn the_example() {
     assert_eq!(dropped, [[12, 2, 0], [17, 3, 3], [13, 5, 0], [15, 6, 0], [11, 7, 0]]);
     let case = judge(&left, &Paper).unwrap();
     assert_eq!(case.facts.iter().map(|fact| fact.block).collect::<Vec<_>>(), [4, 5, 7]);
-    assert_eq!((left.len(), case.bounds.total), (342, 95));
+    assert_eq!((left.len(), case.bounds(0, &Paper).total), (342, 95));
 }
 
 /// "drops each fact that earns 12 to 14 or 16 to 18, 24 or 25", "each with the first number it earns and places".

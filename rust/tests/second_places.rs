@@ -152,7 +152,7 @@ fn every_other_second_place_is_0() {
 #[test]
 fn a_refusal_is_printed_with_both_places() {
     let broken = looped(BLOCKS, vec![fact(5, [set(&[6, 7]), set(&[]), MANY])]).write();
-    assert_eq!(listing(&broken), "refused 25 0 4\n");
-    assert_eq!(listing(&[]), "refused 1 0 0\n");
-    assert_eq!(listing(&vec![0; LONGEST_INPUT + 1]), "refused 28 0 0\n");
+    assert_eq!(listing(&broken, 0), "refused 25 0 4\n");
+    assert_eq!(listing(&[], 0), "refused 1 0 0\n");
+    assert_eq!(listing(&vec![0; LONGEST_INPUT + 1], 0), "refused 28 0 0\n");
 }

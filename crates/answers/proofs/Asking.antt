@@ -46,14 +46,14 @@ module _ (r : List ℕ) where
         rw (← e, c) (rw m at (trace-answer _ _ _ _ _ _ _ p), rw m at (p .marks))
 
   module _ (lent : List ℕ) where
-    pub check-asked : {numbers after : List ℕ} {n m : ℕ} {v : Verdict} → n ≡ u32At r 0 → m ≡ u32At r Places.checkNumbers → numbers ≡ u64s (take (length lent - n) (drop n lent)) m →
-        CheckPromise (take (n - 0) lent) numbers v after → (v ≡ checkAsked r lent) × (after ≡ numbersAfter r lent)
+    pub check-asked : {numbers after : List ℕ} {i n m : ℕ} {v : Verdict} → i ≡ u16At r 0 → n ≡ u32At r Places.checkFile → m ≡ u32At r Places.checkNumbers → numbers ≡ u64s (take (length lent - n) (drop n lent)) m →
+        CheckPromise (take (n - 0) lent) i numbers v after → (v ≡ checkAsked r lent) × (after ≡ numbersAfter r lent)
     unfolding checkAsked numbersAfter
-    check-asked {numbers} {after} {n} {m} {v} e k b p =
+    check-asked {numbers} {after} {i} {n} {m} {v} a e k b p =
         let z : n - 0 ≡ n = omega arith in
         let c : u64s (drop n lent) m ≡ numbers = sym (rw (part-rest lent n) at b) in
-        let w : v ≡ verdict (take (u32At r 0) lent) (length (u64s (drop (u32At r 0) lent) (u32At r Places.checkNumbers))) = rw (← e, ← k, c) (rw z at (check-answer _ _ _ _ p)) in
-        (w, rw (← w, ← e, ← k, c) (rw z at (p .numbers)))
+        let w : v ≡ verdict (take (u32At r Places.checkFile) lent) (length (u64s (drop (u32At r Places.checkFile) lent) (u32At r Places.checkNumbers))) = rw (← e, ← k, c) (rw z at (check-answer _ _ _ _ _ p)) in
+        (w, rw (← w, ← a, ← e, ← k, c) (rw z at (p .numbers)))
 
   -- the frame of what is asked for, where the lent memory is a part of the bytes
   pub check-framed : (l : List ℕ) {v : Verdict} {h : Head} {numbers : List ℕ} → h ≡ checkHead v → v ≡ checkAsked r (take (length l - Places.lentAt) (drop Places.lentAt l)) →

@@ -19,30 +19,30 @@ use Rattle.bolgverk.specs.Promises.{CheckPromise}
 use Rattle.ruling.specs.Ruled.{written, Ruled}
 use Rattle.bolgverk.proofs.Kept.{check-kept}
 
-module _ (f lent : List ℕ) where
-  pub too-short : (r : Refusal) → length lent < 321 → r ≡ refuse 20 0 → CheckPromise f lent (Refused r) lent
+module _ (f : List ℕ) (p : ℕ) (lent : List ℕ) where
+  pub too-short : (r : Refusal) → length lent < 321 → r ≡ refuse 20 0 → CheckPromise f p lent (Refused r) lent
   unfolding verdict
-  too-short r h e = check-kept f lent (Refused r) lent (stops-lt (refuse 20 0) (length lent) 321 (fileVerdict f) r h e) refl
+  too-short r h e = check-kept f p lent (Refused r) lent (stops-lt (refuse 20 0) (length lent) 321 (fileVerdict f) r h e) refl
 
   module _ (h : 321 ≤ length lent) (l : Layout) (a : l ≡ layoutOf f) where
     enough : (v : Verdict) → v ≡ fileVerdict f → v ≡ verdict f (length lent)
     unfolding verdict
     enough v e = passes-lt (refuse 20 0) (length lent) 321 (fileVerdict f) v h e
 
-    pub layout-refused : (r : Refusal) → l ≡ Layouts.Refused r → CheckPromise f lent (Refused r) lent
-    layout-refused r e = check-kept f lent (Refused r) lent (enough (Refused r) (sym (refused-rules f r _ (sym a ∙ e)))) refl
+    pub layout-refused : (r : Refusal) → l ≡ Layouts.Refused r → CheckPromise f p lent (Refused r) lent
+    layout-refused r e = check-kept f p lent (Refused r) lent (enough (Refused r) (sym (refused-rules f r _ (sym a ∙ e)))) refl
 
     module _ (trailer : Trailer) (e : l ≡ Layouts.Read trailer) where
       same : trailer ≡ trailerOf f
       same = read-trailer f trailer (sym a ∙ e)
 
-      same-after : (r : Verdict) → written f trailer lent r ≡ lentAfter f lent r
-      same-after Accepted = ap (λ (s : Trailer). written f s lent Accepted) same
+      same-after : (r : Verdict) → written f trailer p lent r ≡ lentAfter f p lent r
+      same-after Accepted = ap (λ (s : Trailer). written f s p lent Accepted) same
       same-after (Refused r) = refl
 
-      pub ruled-check : (r : Verdict) (after : List ℕ) → Ruled f trailer lent r after → CheckPromise f lent r after
+      pub ruled-check : (r : Verdict) (after : List ℕ) → Ruled f trailer p lent r after → CheckPromise f p lent r after
       ruled-check r after j =
-          check-kept f lent r after
+          check-kept f p lent r after
           (enough r
           (j .answer ∙ ap (λ (s : Trailer). graphRules (caseOf f s) (factRules f s Accepted)) same ∙ sym (read-rules f trailer (sym a ∙ e) _)))
           (j .numbers ∙ same-after r)

@@ -58,15 +58,15 @@ module _ (policy ways sets : ℕ) (blocks lent : List ℕ) where
       TracePromise policy ways sets blocks lent r after → TracePromise policy ways sets blocks lent r′ after′ → (r ≡ r′) × (after ≡ after′)
   trace-determined r r′ after after′ p q = (trace-answer r after p ∙ sym (trace-answer r′ after′ q), p .marks ∙ sym (q .marks))
 
-module _ (file lent : List ℕ) where
-  pub check-answer : (r : Verdict) (after : List ℕ) → CheckPromise file lent r after → r ≡ verdict file (length lent)
+module _ (file : List ℕ) (interruptions : ℕ) (lent : List ℕ) where
+  pub check-answer : (r : Verdict) (after : List ℕ) → CheckPromise file interruptions lent r after → r ≡ verdict file (length lent)
   check-answer r after p = same-verdict _ _ (p .told)
 
   pub check-determined : (r r′ : Verdict) (after after′ : List ℕ) →
-      CheckPromise file lent r after → CheckPromise file lent r′ after′ → (r ≡ r′) × (after ≡ after′)
+      CheckPromise file interruptions lent r after → CheckPromise file interruptions lent r′ after′ → (r ≡ r′) × (after ≡ after′)
   check-determined r r′ after after′ p q =
       let e : r ≡ r′ = check-answer r after p ∙ sym (check-answer r′ after′ q) in
-      (e, p .numbers ∙ ap (lentAfter file lent) e ∙ sym (q .numbers))
+      (e, p .numbers ∙ ap (lentAfter file interruptions lent) e ∙ sym (q .numbers))
 
 module _ (version policy ways sets : ℕ) (nodes edges loops heads rows lent : List ℕ) where
   pub write-answer : (r : WriteAnswer) (after : List ℕ) → WritePromise version policy ways sets nodes edges loops heads rows lent r after →

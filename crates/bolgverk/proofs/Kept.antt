@@ -13,13 +13,13 @@ use Rattle.theory.proofs.Accepted.{accepted-holds}
 use Rattle.theory.proofs.Exact.{file-exact}
 use Rattle.bolgverk.specs.Promises.{CheckPromise}
 
-pub check-kept : (file lent : List ℕ) (r : Verdict) (after : List ℕ) → r ≡ verdict file (length lent) → after ≡ lentAfter file lent r → CheckPromise file lent r after
-check-kept file lent r after a n =
+pub check-kept : (file : List ℕ) (p : ℕ) (lent : List ℕ) (r : Verdict) (after : List ℕ) → r ≡ verdict file (length lent) → after ≡ lentAfter file p lent r → CheckPromise file p lent r after
+check-kept file p lent r after a n =
     record {
       told = ap toldVerdict a;
       numbers = n;
       holds = λ e.
-          let z : after ≡ lentAfter file lent Accepted = n ∙ ap (lentAfter file lent) e in
-          subst (Holds (readCase file)) (sym z) (accepted-holds file (length lent) (sym a ∙ e) (drop 321 lent));
+          let z : after ≡ lentAfter file p lent Accepted = n ∙ ap (lentAfter file p lent) e in
+          subst (Holds (readCase file) p) (sym z) (accepted-holds file (length lent) (sym a ∙ e) p (drop 321 lent));
       exact = file-exact file;
     }

@@ -43,11 +43,11 @@ pub record TracePromise (policy ways sets : ℕ) (blocks lent : List ℕ) (r : T
   pub told : toldTrace r ≡ toldTrace (traceRun policy ways sets blocks lent .answer)
   pub marks : after ≡ traceRun policy ways sets blocks lent .marks
 
--- `lent` and `after`: the lent numbers before and after. Demands 1 and 2 are `told` and `numbers`; demand 3 is `holds` and `exact`.
-pub record CheckPromise (file lent : List ℕ) (r : Verdict) (after : List ℕ) : Type 0 where
+-- p is "the greatest number … of such interruptions"; `lent` and `after`: the lent numbers before and after. Demands 1 and 2 are `told` and `numbers`; demand 3 is `holds` and `exact`.
+pub record CheckPromise (file : List ℕ) (p : ℕ) (lent : List ℕ) (r : Verdict) (after : List ℕ) : Type 0 where
   pub told : toldVerdict r ≡ toldVerdict (verdict file (length lent))
-  pub numbers : after ≡ lentAfter file lent r
-  pub holds : r ≡ Accepted → Holds (readCase file) after
+  pub numbers : after ≡ lentAfter file p lent r
+  pub holds : r ≡ Accepted → Holds (readCase file) p after
   pub exact : EvidenceExact file
 
 -- `lent` and `after`: the lent bytes before and after. The answer is that of the verdict on the content; `reads` and `again` are the request's two sentences:

@@ -43,15 +43,16 @@ pub fn trace_run(policy: u8, ways: u8, sets: u8, blocks: &[u16], marks: &mut [u8
 }
 
 // "The check tests 20 first, then 1 to 10 in order, each over the whole file; then for each fact in turn 11 to 18; then 19." And 26 "after 9 and before 10".
-pub fn check(file: &[u8], numbers: &mut [u64]) -> Verdict
-    ensures { λ r. ⌜ CheckPromise (now (file .entry)) (now (numbers .entry)) r (now (numbers .exit)) ⌝ }
+// "The caller hands the greatest number p of such interruptions, 0 to 65,535."
+pub fn check(file: &[u8], interruptions: u16, numbers: &mut [u64]) -> Verdict
+    ensures { λ r. ⌜ CheckPromise (now (file .entry)) interruptions (now (numbers .entry)) r (now (numbers .exit)) ⌝ }
 {
     if numbers.len() < LIST_LENGTH {
         return Verdict::Refused(paper::refuse(20, 0));
     }
     let read = layout::layout_of(file);
     match read {
-        Layout::Read(trailer) => ruling::rule_on(file, trailer, numbers),
+        Layout::Read(trailer) => ruling::rule_on(file, trailer, interruptions, numbers),
         Layout::Refused(r) => Verdict::Refused(r),
     }
 }

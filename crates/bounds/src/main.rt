@@ -1,4 +1,4 @@
-// Reads a case file from standard input and prints its bounds, or the refusal. Where it cannot read or write, it says so
+// Reads a case file from standard input and prints its bounds where nothing interrupts the task, or the refusal. Where it cannot read or write, it says so
 // on standard error: a program has no exit status of its own, and scripts/bounds gives one for it.
 use libc::STDERR_FILENO;
 use libc::STDIN_FILENO;
@@ -18,7 +18,7 @@ fn main() {
             return;
         }
     }
-    let r = listing::listing(&input[..n], &mut out);
+    let r = listing::listing(&input[..n], 0, &mut out);
     if !io::write_all(STDOUT_FILENO, &out[0..r]) {
         io::write_all(STDERR_FILENO, b"bounds: the output cannot be written\n");
     }

@@ -21,17 +21,17 @@ use Rattle.charge.proofs.SmallSums.{at-end}
 use Rattle.charge.proofs.Tallies.{grouped-more, grouped-open}
 
 -- a loop over the facts is at fact i, which stands at p
-pub record Adding (f : List ℕ) (trailer : Trailer) (old : List ℕ) (i p : ℕ) (cover charged entered numbers : List ℕ) : Type 0 where
+pub record Adding (f : List ℕ) (trailer : Trailer) (interruptions : ℕ) (old : List ℕ) (i p : ℕ) (cover charged entered numbers : List ℕ) : Type 0 where
   pub within : i ≤ trailer .facts
   pub place : p ≡ factPlace f trailer i
   pub covered : Covered (caseOf f trailer) i cover
-  pub added : FactsAdded (caseOf f trailer) i charged entered
-  pub part : Part (caseOf f trailer) 0 0 i old numbers
+  pub added : FactsAdded (caseOf f trailer) interruptions i charged entered
+  pub part : Part (caseOf f trailer) interruptions 0 0 i old numbers
 
-module _ (f : List ℕ) (trailer : Trailer) (old : List ℕ) (i p : ℕ) (cover charged entered numbers : List ℕ) (w : Adding f trailer old i p cover charged entered numbers) where
-  pub adding-end : trailer .facts ≤ i → Covered (caseOf f trailer) (trailer .facts) cover × (FactsAdded (caseOf f trailer) (trailer .facts) charged entered × Part (caseOf f trailer) 0 0 (trailer .facts) old numbers)
+module _ (f : List ℕ) (trailer : Trailer) (interruptions : ℕ) (old : List ℕ) (i p : ℕ) (cover charged entered numbers : List ℕ) (w : Adding f trailer interruptions old i p cover charged entered numbers) where
+  pub adding-end : trailer .facts ≤ i → Covered (caseOf f trailer) (trailer .facts) cover × (FactsAdded (caseOf f trailer) interruptions (trailer .facts) charged entered × Part (caseOf f trailer) interruptions 0 0 (trailer .facts) old numbers)
   adding-end h =
-      at-end (λ n. Covered (caseOf f trailer) n cover × (FactsAdded (caseOf f trailer) n charged entered × Part (caseOf f trailer) 0 0 n old numbers)) i (trailer .facts) (w .within) h
+      at-end (λ n. Covered (caseOf f trailer) n cover × (FactsAdded (caseOf f trailer) interruptions n charged entered × Part (caseOf f trailer) interruptions 0 0 n old numbers)) i (trailer .facts) (w .within) h
       (w .covered, (w .added, w .part))
 
   pub adding-limits : Limits (caseOf f trailer) cover
@@ -49,18 +49,18 @@ module _ (f : List ℕ) (trailer : Trailer) (old : List ℕ) (i p : ℕ) (cover 
     unfolding caseOf
     limit-low = omega (arith, fact-head f trailer (r .laid) (r .sound) i h .high, r .laid .ways-high)
 
-    module _ (k : Cost) (costs : k ≡ costOf f trailer p) where
+    module _ (k : Cost) (costs : k ≡ costOf f trailer p interruptions) where
       pub adding-open : Open charged entered (k .block % trailer .sets) (k .limit) (k .bound) (k .entered)
       unfolding caseOf costOf
       adding-open =
           rw (costs, w .place)
           (grouped-open _ _ _ _ i charged entered (w .added) (set-low f trailer (r .laid) (r .sound) _) limit-low (omega (arith, r .laid .facts-high))
-          (λ j q. let s = fact-small f trailer (r .laid) (r .sound) j (omega arith) in (s .0, omega (arith, s .1))))
+          (λ j q. let s = fact-small f trailer (r .laid) (r .sound) j (omega arith) interruptions in (s .0, omega (arith, s .1))))
 
       pub adding-more :
           (new charged′ entered′ : List ℕ) → Lowered (caseOf f trailer) (covers (caseOf f trailer) (factAt f p)) (factAt f p .limit) cover new
           → charged′ ≡ plus charged (k .block % trailer .sets) (k .bound) → entered′ ≡ plus entered (placeOf (k .block % trailer .sets) (k .limit)) (k .entered)
-          → Adding f trailer old (i + 1) (k .next) new charged′ entered′ (set numbers (factsFrom + i) (k .bound))
+          → Adding f trailer interruptions old (i + 1) (k .next) new charged′ entered′ (set numbers (factsFrom + i) (k .bound))
       unfolding caseOf costOf factPlace
       adding-more new charged′ entered′ low ec ee =
           rw (ec, ee, costs, w .place)
@@ -69,5 +69,5 @@ module _ (f : List ℕ) (trailer : Trailer) (old : List ℕ) (i p : ℕ) (cover 
             place = rw add-one refl;
             covered = covered-more (caseOf f trailer) i cover new (w .covered) (rw (← w .place) low);
             added = grouped-more _ _ _ _ i charged entered (w .added) (set-low f trailer (r .laid) (r .sound) _) limit-low;
-            part = part-fact (caseOf f trailer) old i _ numbers (omega (arith, r .laid .facts-high)) refl (w .part);
+            part = part-fact (caseOf f trailer) interruptions old i _ numbers (omega (arith, r .laid .facts-high)) refl (w .part);
           })

@@ -1,5 +1,5 @@
 -- What one fact costs: the code's numbers are the paper's.
-use Prim.Native.Nat.{ℕ, _≤_, _<_, min}
+use Prim.Native.Nat.{ℕ, _+_, _≤_, _<_, min}
 use native.Mathlib.Omega.{arith}
 use native.Mathlib.Decide.{ℕ-discrete}
 use mathlib.Core.Path.{_≡_, refl, subst, _∙_}
@@ -57,11 +57,11 @@ module _ (f : List ℕ) (trailer : Trailer) (p : ℕ) where
 
   module _ (h : Head) (eh : h ≡ headOf f trailer p) where
     pub cost-is :
-        (E N m x : ℕ) → E ≡ entries (caseOf f trailer) (factAt f p) → N ≡ counts (caseOf f trailer) (fetchesIn (caseOf f trailer) (h .range) (h .block))
-        → m ≡ min E N → x ≡ boundOf (trailer .policy) (trailer .ways) (h .limit) m N
-        → _≡_ {A = Cost} (record { block = h .block; limit = h .limit; entered = m; bound = x; next = h .next }) (costOf f trailer p)
+        (interruptions E N m x : ℕ) → E ≡ entries (caseOf f trailer) (factAt f p) → N ≡ counts (caseOf f trailer) (fetchesIn (caseOf f trailer) (h .range) (h .block))
+        → m ≡ min (E + interruptions) N → x ≡ boundOf (trailer .policy) (trailer .ways) (h .limit) m N
+        → _≡_ {A = Cost} (record { block = h .block; limit = h .limit; entered = m; bound = x; next = h .next }) (costOf f trailer p interruptions)
     unfolding headOf costOf factBound entered covers caseOf
-    cost-is E N m x eE eN em ex = rw (ex, em, eN, eE, eh) refl
+    cost-is interruptions E N m x eE eN em ex = rw (ex, em, eN, eE, eh) refl
 
     pub lowered-is :
         (old new : List ℕ) → Lowered (caseOf f trailer) (fetchesIn (caseOf f trailer) (h .range) (h .block)) (h .limit) old new

@@ -21,55 +21,55 @@ use Rattle.charge.proofs.Small.{fact-head, charged-small, entered-small
 use Rattle.charge.proofs.SetTables.{A-is, M-start, M-more}
 
 -- the loop has come to j, with m = M(j) and x the least so far
-pub record Flooring (e : Case) (q a m x j : ℕ) : Type 0 where
-  pub lowest : Lowest (floorAt e q) a (e .ways) x j
-  pub sum : m ≡ M e j q
+pub record Flooring (e : Case) (p q a m x j : ℕ) : Type 0 where
+  pub lowest : Lowest (floorAt e p q) a (e .ways) x j
+  pub sum : m ≡ M e p j q
   pub small : m ≤ largestVisits + largestEntered * j
 
-module _ (f : List ℕ) (trailer : Trailer) (charged entered fetched spent : List ℕ) (s : Summed f trailer charged entered fetched spent) (q : ℕ) (hq : q < Sizes.sets) where
-  sum-A : getD charged q 0 + getD spent (placeOf q Sizes.noLimit) 0 ≡ A (caseOf f trailer) q
+module _ (f : List ℕ) (trailer : Trailer) (p : ℕ) (charged entered fetched spent : List ℕ) (s : Summed f trailer p charged entered fetched spent) (q : ℕ) (hq : q < Sizes.sets) where
+  sum-A : getD charged q 0 + getD spent (placeOf q Sizes.noLimit) 0 ≡ A (caseOf f trailer) p q
   unfolding caseOf
-  sum-A = A-is (caseOf f trailer) (fact-head f trailer (s .laid) (s .sound)) (s .laid .ways-high) q charged entered fetched spent (s .facts) (s .nodes) hq
+  sum-A = A-is (caseOf f trailer) (fact-head f trailer (s .laid) (s .sound)) (s .laid .ways-high) p q charged entered fetched spent (s .facts) (s .nodes) hq
 
   pub A-small : getD charged q 0 + getD spent (placeOf q Sizes.noLimit) 0 ≤ largestA
   A-small =
       omega (
         arith,
-        charged-small f trailer (s .laid) (s .sound) charged entered (s .facts) q hq,
+        charged-small f trailer (s .laid) (s .sound) p charged entered (s .facts) q hq,
         spent-small f trailer (s .laid) (s .sound) fetched spent (s .nodes) (placeOf q Sizes.noLimit) (omega arith),
       )
 
   pub floor-set :
-      (r : ℕ) → partsOf (trailer .policy) .floors ≡ true → r ≡ lowestTo (floorAt (caseOf f trailer) q) (getD charged q 0 + getD spent (placeOf q Sizes.noLimit) 0) (trailer .ways)
-      → r ≡ setBound (caseOf f trailer) q
+      (r : ℕ) → partsOf (trailer .policy) .floors ≡ true → r ≡ lowestTo (floorAt (caseOf f trailer) p q) (getD charged q 0 + getD spent (placeOf q Sizes.noLimit) 0) (trailer .ways)
+      → r ≡ setBound (caseOf f trailer) p q
   unfolding caseOf setBound
-  floor-set r h e = rw h (e ∙ ap (λ x. lowestTo (floorAt (caseOf f trailer) q) x (trailer .ways)) sum-A)
+  floor-set r h e = rw h (e ∙ ap (λ x. lowestTo (floorAt (caseOf f trailer) p q) x (trailer .ways)) sum-A)
 
-  pub other-set : partsOf (trailer .policy) .floors ≡ false → getD charged q 0 + getD spent (placeOf q Sizes.noLimit) 0 ≡ setBound (caseOf f trailer) q
+  pub other-set : partsOf (trailer .policy) .floors ≡ false → getD charged q 0 + getD spent (placeOf q Sizes.noLimit) 0 ≡ setBound (caseOf f trailer) p q
   unfolding caseOf setBound
   other-set h = rw h sum-A
 
-  pub flooring-start : (a : ℕ) → Flooring (caseOf f trailer) q a (getD fetched q 0) a 0
+  pub flooring-start : (a : ℕ) → Flooring (caseOf f trailer) p q a (getD fetched q 0) a 0
   unfolding caseOf
   flooring-start a =
       record {
-        lowest = lowest-start (floorAt (caseOf f trailer) q) a (trailer .ways);
-        sum = M-start (caseOf f trailer) (fact-head f trailer (s .laid) (s .sound)) (s .laid .ways-high) q charged entered fetched spent (s .facts) (s .nodes) hq;
+        lowest = lowest-start (floorAt (caseOf f trailer) p q) a (trailer .ways);
+        sum = M-start (caseOf f trailer) (fact-head f trailer (s .laid) (s .sound)) (s .laid .ways-high) p q charged entered fetched spent (s .facts) (s .nodes) hq;
         small = omega (arith, fetched-small f trailer (s .laid) (s .sound) fetched spent (s .nodes) q hq);
       }
 
-  module _ (a m x j : ℕ) (w : Flooring (caseOf f trailer) q a m x j) (h : j < trailer .ways) where
+  module _ (a m x j : ℕ) (w : Flooring (caseOf f trailer) p q a m x j) (h : j < trailer .ways) where
     abbrev in-E : ℕ
     in-E = getD entered (placeOf q (j + 1)) 0
 
     abbrev out : ℕ
     out = getD spent (placeOf q (j + 1)) 0
 
-    next-M : m + in-E ≡ M (caseOf f trailer) (suc j) q + out
+    next-M : m + in-E ≡ M (caseOf f trailer) p (suc j) q + out
     unfolding caseOf
     next-M =
         rw (add-one, w .sum)
-        (M-more (caseOf f trailer) (fact-head f trailer (s .laid) (s .sound)) (s .laid .ways-high) q charged entered fetched spent (s .facts) (s .nodes) hq j (omega (arith, s .laid .ways-high)))
+        (M-more (caseOf f trailer) (fact-head f trailer (s .laid) (s .sound)) (s .laid .ways-high) p q charged entered fetched spent (s .facts) (s .nodes) hq j (omega (arith, s .laid .ways-high)))
 
     -- nothing is taken that is not there
     pub out-fits : out ≤ m + in-E
@@ -80,19 +80,19 @@ module _ (f : List ℕ) (trailer : Trailer) (charged entered fetched spent : Lis
         omega (
           arith,
           w .small,
-          entered-small f trailer (s .laid) (s .sound) charged entered (s .facts) (placeOf q (j + 1)) (omega (arith, s .laid .ways-high)),
+          entered-small f trailer (s .laid) (s .sound) p charged entered (s .facts) (placeOf q (j + 1)) (omega (arith, s .laid .ways-high)),
         )
 
     pub next-small : m + in-E - out ≤ largestM
     next-small = omega (arith, in-small, s .laid .ways-high)
 
     pub flooring-more :
-        (n y r : ℕ) → n ≡ m + in-E - out → y ≡ floorOf (trailer .ways) (j + 1) n → r ≡ min x y → Flooring (caseOf f trailer) q a n r (j + 1)
+        (n y r : ℕ) → n ≡ m + in-E - out → y ≡ floorOf (trailer .ways) (j + 1) n → r ≡ min x y → Flooring (caseOf f trailer) p q a n r (j + 1)
     unfolding caseOf floorAt
     flooring-more n y r en ey er =
-        let eM : n ≡ M (caseOf f trailer) (suc j) q = omega (arith, next-M, en) in
+        let eM : n ≡ M (caseOf f trailer) p (suc j) q = omega (arith, next-M, en) in
         record {
-          lowest = lowest-more (floorAt (caseOf f trailer) q) a (trailer .ways) x j y r (w .lowest) h (ey ∙ rw (add-one, eM) refl) er;
+          lowest = lowest-more (floorAt (caseOf f trailer) p q) a (trailer .ways) x j y r (w .lowest) h (ey ∙ rw (add-one, eM) refl) er;
           sum = rw add-one eM;
           small = omega (arith, in-small, en);
         }

@@ -22,9 +22,9 @@ use Rattle.charge.specs.Tables.{zeros, Part}
 ltb-more : (i n : ℕ) → i ≢ n → ltb i (n + 1) ≡ ltb i n
 ltb-more i n h = says-same (λ (l : i < n + 1). omega arith) (λ (l : i < n). omega arith) (says-lt _ _) (says-lt _ _)
 
-module _ (e : Case) (old : List ℕ) where
+module _ (e : Case) (p : ℕ) (old : List ℕ) where
   -- all numbers are 0
-  pub part-start : (new : List ℕ) → listLength ≤ length old → new ≡ zeros ++ drop listLength old → Part e 0 0 0 old new
+  pub part-start : (new : List ℕ) → listLength ≤ length old → new ≡ zeros ++ drop listLength old → Part e p 0 0 0 old new
   part-start new r q =
       let k : length zeros ≡ listLength = length-table _ listLength in
       rw q (record {
@@ -39,16 +39,16 @@ module _ (e : Case) (old : List ℕ) where
       pick false true = refl
       pick false false = refl
 
-      nothing : (i : ℕ) → 0 ≡ partAt e 0 0 0 i
+      nothing : (i : ℕ) → 0 ≡ partAt e p 0 0 0 i
       nothing i = rw (le-ltb (i - setsFrom) 0 (omega arith), le-ltb (i - factsFrom) 0 (omega arith)) (pick (ltb i setsFrom) (ltb i factsFrom))
 
-  pub part-self : (T Q I : ℕ) (new : List ℕ) → Part e T Q I old new → Part e T Q I new new
+  pub part-self : (T Q I : ℕ) (new : List ℕ) → Part e p T Q I old new → Part e p T Q I new new
   part-self T Q I new w = record { all = omega (arith, w .all, w .room); room = refl; is = w .is; later = refl }
 
   -- one number is written
   part-more :
-      (T Q I T′ Q′ I′ k x : ℕ) (new : List ℕ) → k < listLength → x ≡ partAt e T′ Q′ I′ k
-      → ((i : ℕ) → i ≢ k → partAt e T′ Q′ I′ i ≡ partAt e T Q I i) → Part e T Q I old new → Part e T′ Q′ I′ old (set new k x)
+      (T Q I T′ Q′ I′ k x : ℕ) (new : List ℕ) → k < listLength → x ≡ partAt e p T′ Q′ I′ k
+      → ((i : ℕ) → i ≢ k → partAt e p T′ Q′ I′ i ≡ partAt e p T Q I i) → Part e p T Q I old new → Part e p T′ Q′ I′ old (set new k x)
   part-more T Q I T′ Q′ I′ k x new h ex other w =
       record {
         all = w .all;
@@ -62,32 +62,32 @@ module _ (e : Case) (old : List ℕ) where
         later = drop-set-lt listLength new k x h ∙ w .later;
       }
 
-  pub part-fact : (I x : ℕ) (new : List ℕ) → I < Sizes.facts → x ≡ factBound e (e .fact I) → Part e 0 0 I old new → Part e 0 0 (I + 1) old (set new (factsFrom + I) x)
+  pub part-fact : (I x : ℕ) (new : List ℕ) → I < Sizes.facts → x ≡ factBound e p (e .fact I) → Part e p 0 0 I old new → Part e p 0 0 (I + 1) old (set new (factsFrom + I) x)
   part-fact I x new h ex w =
       part-more 0 0 I 0 0 (I + 1) (factsFrom + I) x new (omega arith) (here ex) other w
     where
-      here : x ≡ factBound e (e .fact I) → x ≡ partAt e 0 0 (I + 1) (factsFrom + I)
+      here : x ≡ factBound e p (e .fact I) → x ≡ partAt e p 0 0 (I + 1) (factsFrom + I)
       here ex =
           let z : factsFrom + I - factsFrom ≡ I = omega arith in
           rw (le-ltb (factsFrom + I) setsFrom (omega arith), le-ltb (factsFrom + I) factsFrom (omega arith), z, lt-ltb I (I + 1) (omega arith)) ex
 
-      other : (i : ℕ) → i ≢ factsFrom + I → partAt e 0 0 (I + 1) i ≡ partAt e 0 0 I i
+      other : (i : ℕ) → i ≢ factsFrom + I → partAt e p 0 0 (I + 1) i ≡ partAt e p 0 0 I i
       other i n =
           elim (decLt i factsFrom) [
             | yes l ↦ rw (lt-ltb i factsFrom l) refl
             | no l ↦ rw (ltb-more (i - factsFrom) I (omega arith)) refl
           ]
 
-  pub part-set : (Q I x : ℕ) (new : List ℕ) → Q < Sizes.sets → x ≡ setBound e Q → Part e 0 Q I old new → Part e 0 (Q + 1) I old (set new (setsFrom + Q) x)
+  pub part-set : (Q I x : ℕ) (new : List ℕ) → Q < Sizes.sets → x ≡ setBound e p Q → Part e p 0 Q I old new → Part e p 0 (Q + 1) I old (set new (setsFrom + Q) x)
   part-set Q I x new h ex w =
       part-more 0 Q I 0 (Q + 1) I (setsFrom + Q) x new (omega arith) (here ex) other w
     where
-      here : x ≡ setBound e Q → x ≡ partAt e 0 (Q + 1) I (setsFrom + Q)
+      here : x ≡ setBound e p Q → x ≡ partAt e p 0 (Q + 1) I (setsFrom + Q)
       here ex =
           let z : setsFrom + Q - setsFrom ≡ Q = omega arith in
           rw (le-ltb (setsFrom + Q) setsFrom (omega arith), lt-ltb (setsFrom + Q) factsFrom (omega arith), z, lt-ltb Q (Q + 1) (omega arith)) ex
 
-      other : (i : ℕ) → i ≢ setsFrom + Q → partAt e 0 (Q + 1) I i ≡ partAt e 0 Q I i
+      other : (i : ℕ) → i ≢ setsFrom + Q → partAt e p 0 (Q + 1) I i ≡ partAt e p 0 Q I i
       other i n =
           elim (decLt i setsFrom) [
             | yes l ↦ rw (lt-ltb i setsFrom l) refl
@@ -95,27 +95,27 @@ module _ (e : Case) (old : List ℕ) where
           ]
 
   pub part-total :
-      (Q I b x : ℕ) (new : List ℕ) → Part e 0 Q I old new → Added (setBound e) b (e .sets) x Q → e .sets ≤ Q
-      → Part e (totalBound e) (e .sets) I old (set new 0 x)
+      (Q I b x : ℕ) (new : List ℕ) → Part e p 0 Q I old new → Added (setBound e p) b (e .sets) x Q → e .sets ≤ Q
+      → Part e p (totalBound e p) (e .sets) I old (set new 0 x)
   part-total Q I b x new w a h =
       let z : Q ≡ e .sets = omega (arith, a .within) in
-      part-more 0 (e .sets) I (totalBound e) (e .sets) I 0 x new (omega arith) (total (added-end (setBound e) b (e .sets) x Q a h .0)) other
-      (subst (λ n. Part e 0 n I old new) z w)
+      part-more 0 (e .sets) I (totalBound e p) (e .sets) I 0 x new (omega arith) (total (added-end (setBound e p) b (e .sets) x Q a h .0)) other
+      (subst (λ n. Part e p 0 n I old new) z w)
     where
-      total : x ≡ sumTo (setBound e) (e .sets) → x ≡ partAt e (totalBound e) (e .sets) I 0
+      total : x ≡ sumTo (setBound e p) (e .sets) → x ≡ partAt e p (totalBound e p) (e .sets) I 0
       total q = unfold totalBound in q
 
-      other : (i : ℕ) → i ≢ 0 → partAt e (totalBound e) (e .sets) I i ≡ partAt e 0 (e .sets) I i
+      other : (i : ℕ) → i ≢ 0 → partAt e p (totalBound e p) (e .sets) I i ≡ partAt e p 0 (e .sets) I i
       other i n = rw (le-ltb i setsFrom (omega arith)) refl
 
   -- all are written
-  pub part-end : (mid new : List ℕ) → drop listLength mid ≡ drop listLength old → Part e (totalBound e) (e .sets) (e .facts) mid new → new ≡ table (numberAt e) listLength ++ drop listLength old
+  pub part-end : (mid new : List ℕ) → drop listLength mid ≡ drop listLength old → Part e p (totalBound e p) (e .sets) (e .facts) mid new → new ≡ table (numberAt e p) listLength ++ drop listLength old
   unfolding numberAt
   part-end mid new d w =
       let m = length-take-le listLength new (omega (arith, w .all, w .room)) in
-      let h : take listLength new ≡ table (numberAt e) listLength =
-      ext-getD 0 (take listLength new) (table (numberAt e) listLength) (m ∙ sym (length-table (numberAt e) listLength))
+      let h : take listLength new ≡ table (numberAt e p) listLength =
+      ext-getD 0 (take listLength new) (table (numberAt e p) listLength) (m ∙ sym (length-table (numberAt e p) listLength))
       (λ i l.
       let k : i < listLength = omega (arith, m) in
-      getD-take listLength new i 0 k ∙ w .is i k ∙ sym (getD-table (numberAt e) listLength i 0 k)) in
+      getD-take listLength new i 0 k ∙ w .is i k ∙ sym (getD-table (numberAt e p) listLength i 0 k)) in
       sym (take-append-drop listLength new) ∙ ap₂ (λ (x y : List ℕ). x ++ y) h (w .later ∙ d)

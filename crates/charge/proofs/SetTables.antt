@@ -27,9 +27,9 @@ module _ (e : Case) (heads : (i : ℕ) → i < e .facts → SoundHead e (e .fact
   least : (v : ℕ) → v < e .nodes → (1 ≤ lowestLimit e (e .facts) v) × (lowestLimit e (e .facts) v < Sizes.limits)
   least v h = (lowest-low e (e .facts) v (λ i l. heads i l .low), omega (arith, lowest-high e (e .facts) v))
 
-  module _ (q : ℕ) where
+  module _ (p q : ℕ) where
     abbrev facts-to : ℕ → ℕ
-    facts-to l = Groups.upTo (setOfFact e) (λ i. e .fact i .limit) (λ i. entered e (e .fact i)) q (e .facts) l
+    facts-to l = Groups.upTo (setOfFact e) (λ i. e .fact i .limit) (λ i. entered e p (e .fact i)) q (e .facts) l
 
     abbrev nodes-past : ℕ → ℕ
     nodes-past l = beyond (setOfNode e) (lowestLimit e (e .facts)) (weight e) q (e .nodes) l
@@ -55,32 +55,32 @@ module _ (e : Case) (heads : (i : ℕ) → i < e .facts → SoundHead e (e .fact
           ap (λ (b : Bool). cond (lives e q (e .block v) && not b) (count e v) 0) (covered-is e test v l small (e .facts) agree)
           ∙ pick (eqb (e .block v) none) (eqb (setOfNode e v) q) (leb (lowestLimit e (e .facts) v) l) (count e v))
 
-    M-is : (l : ℕ) → l < Sizes.noLimit → M e l q ≡ facts-to l + nodes-past l
+    M-is : (l : ℕ) → l < Sizes.noLimit → M e p l q ≡ facts-to l + nodes-past l
     unfolding M sumOf Groups.upTo
     M-is l h =
         ap₂ (λ (x y : ℕ). x + y)
         (sum-same _ _ (e .facts)
-        (λ i k. ap (λ (b : Bool). cond (b && leb (e .fact i .limit) l) (entered e (e .fact i)) 0) (fact-lives i k)))
+        (λ i k. ap (λ (b : Bool). cond (b && leb (e .fact i .limit) l) (entered e p (e .fact i)) 0) (fact-lives i k)))
         (nodes-are (upTo e l) l h (λ i k. refl))
 
-    module _ (charged entries fetched spent : List ℕ) (f : FactsAdded e (e .facts) charged entries) (n : NodesAdded e (e .nodes) fetched spent) (hq : q < Sizes.sets) where
-      pub A-is : getD charged q 0 + getD spent (placeOf q Sizes.noLimit) 0 ≡ A e q
+    module _ (charged entries fetched spent : List ℕ) (f : FactsAdded e p (e .facts) charged entries) (n : NodesAdded e (e .nodes) fetched spent) (hq : q < Sizes.sets) where
+      pub A-is : getD charged q 0 + getD spent (placeOf q Sizes.noLimit) 0 ≡ A e p q
       unfolding A sumOf
       A-is =
           ap₂ (λ (x y : ℕ). x + y)
           (f .by-set .is q (omega (arith, f .sets-room))
           ∙ sum-same _ _ (e .facts)
-          (λ i k. ap (λ (b : Bool). cond b (factBound e (e .fact i)) 0) (sym (and-true (lives e q (e .fact i .block)) ∙ fact-lives i k))))
+          (λ i k. ap (λ (b : Bool). cond b (factBound e p (e .fact i)) 0) (sym (and-true (lives e q (e .fact i .block)) ∙ fact-lives i k))))
           (sym (past-last _ _ _ _ _ spent (n .by-limit) (n .limits-room) hq least)
           ∙ sym (nodes-are (anyFact e) 8 (omega arith) (λ i k. sym (le-leb (e .fact i .limit) 8 (omega (arith, heads i k .high))))))
 
-      pub M-start : getD fetched q 0 ≡ M e 0 q
+      pub M-start : getD fetched q 0 ≡ M e p 0 q
       M-start =
           n .by-set .is q (omega (arith, n .sets-room))
           ∙ sym (past-all _ _ _ q (e .nodes) (λ v k. least v k .0))
-          ∙ omega (arith, M-is 0 (omega arith), up-none (setOfFact e) (λ i. e .fact i .limit) (λ i. entered e (e .fact i)) q (e .facts) (λ i k. limits i k .0))
+          ∙ omega (arith, M-is 0 (omega arith), up-none (setOfFact e) (λ i. e .fact i .limit) (λ i. entered e p (e .fact i)) q (e .facts) (λ i k. limits i k .0))
 
-      pub M-more : (l : ℕ) → l < 8 → M e l q + getD entries (placeOf q (suc l)) 0 ≡ M e (suc l) q + getD spent (placeOf q (suc l)) 0
+      pub M-more : (l : ℕ) → l < 8 → M e p l q + getD entries (placeOf q (suc l)) 0 ≡ M e p (suc l) q + getD spent (placeOf q (suc l)) 0
       M-more l h =
           omega (
             arith,

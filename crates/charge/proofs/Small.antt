@@ -1,7 +1,7 @@
 -- The numbers of a file's facts and nodes are small, and so are their sums.
 use Prim.Native.Nat.{ℕ, _+_, _%_, _≤_, _<_}
 use native.Mathlib.Omega.{arith}
-use native.Mathlib.Nat.{le-trans, mod-lt}
+use native.Mathlib.Nat.{mod-lt}
 use mathlib.Core.Bool.{cond, not}
 use mathlib.Core.List.{List}
 use lib.Dec.{eqb}
@@ -18,7 +18,6 @@ use Rattle.paper.specs.Ceilings.{mostCount}
 use Rattle.formulas.specs.Largest.{largestVisits, largestBound, largestEntered, largestCharged}
 use Rattle.charge.specs.Sizes as Sizes
 use Rattle.charge.specs.Tables.{weight, FactsAdded, NodesAdded}
-use Rattle.charge.proofs.Entries.{entries-low}
 use Rattle.charge.proofs.SmallSums.{sum-low}
 use Rattle.charge.proofs.Tallies.{sets-low, limits-low}
 
@@ -32,38 +31,42 @@ module _ (f : List ℕ) (trailer : Trailer) (laid : Laid f trailer) (sound : Sou
     unfolding caseOf
     fact-head = sound .facts i h .head
 
-    entered-low : entered (caseOf f trailer) (caseOf f trailer .fact i) ≤ mostCount
-    unfolding entered
-    entered-low = omega (arith, entries-low (caseOf f trailer) (sound .graph) (caseOf f trailer .fact i) (fact-head .scope))
+    -- N
+    covered-low : counts (caseOf f trailer) (covers (caseOf f trailer) (caseOf f trailer .fact i)) ≤ largestVisits
+    unfolding counts caseOf
+    covered-low =
+        omega (
+          arith,
+          sum-low (λ v. cond (covers (caseOf f trailer) (caseOf f trailer .fact i) v) (count (caseOf f trailer) v) 0) mostCount (trailer .nodes)
+              (λ v q. cond-low (covers (caseOf f trailer) (caseOf f trailer .fact i) v) (sound .graph .counts v q) (omega arith)),
+          laid .nodes-high,
+        )
 
-    fetched : entered (caseOf f trailer) (caseOf f trailer .fact i) ≤ counts (caseOf f trailer) (covers (caseOf f trailer) (caseOf f trailer .fact i))
+    fetched : (p : ℕ) → entered (caseOf f trailer) p (caseOf f trailer .fact i) ≤ counts (caseOf f trailer) (covers (caseOf f trailer) (caseOf f trailer .fact i))
     unfolding entered
-    fetched = omega arith
+    fetched p = omega arith
 
-    pub fact-small : (factBound (caseOf f trailer) (caseOf f trailer .fact i) ≤ largestBound) × (entered (caseOf f trailer) (caseOf f trailer .fact i) ≤ mostCount)
-    unfolding factBound counts caseOf
-    fact-small = (
-      le-trans
-          (bound-low (trailer .policy) (trailer .ways) (caseOf f trailer .fact i .limit) (entered (caseOf f trailer) (caseOf f trailer .fact i)) _ fetched)
-          (omega (
-            arith,
-            sum-low (λ v. cond (covers (caseOf f trailer) (caseOf f trailer .fact i) v) (count (caseOf f trailer) v) 0) mostCount (trailer .nodes)
-                (λ v q. cond-low (covers (caseOf f trailer) (caseOf f trailer .fact i) v) (sound .graph .counts v q) (omega arith)),
-            laid .nodes-high,
-          )),
-      entered-low,
+    pub fact-small : (p : ℕ) → (factBound (caseOf f trailer) p (caseOf f trailer .fact i) ≤ largestBound) × (entered (caseOf f trailer) p (caseOf f trailer .fact i) ≤ largestVisits)
+    unfolding factBound caseOf
+    fact-small p = (
+      omega (
+        arith,
+        bound-low (trailer .policy) (trailer .ways) (caseOf f trailer .fact i .limit) (entered (caseOf f trailer) p (caseOf f trailer .fact i)) _ (fetched p),
+        covered-low,
+      ),
+      omega (arith, fetched p, covered-low),
     )
 
   pub weight-small : (v : ℕ) → v < trailer .nodes → weight (caseOf f trailer) v ≤ mostCount
   unfolding weight caseOf
   weight-small v h = cond-low (not (eqb (nodeAt f v) none)) (sound .graph .counts v h) (omega arith)
 
-  module _ (charged entries : List ℕ) (w : FactsAdded (caseOf f trailer) (trailer .facts) charged entries) where
+  module _ (p : ℕ) (charged entries : List ℕ) (w : FactsAdded (caseOf f trailer) p (trailer .facts) charged entries) where
     pub charged-small : (j : ℕ) → j < Sizes.sets → getD charged j 0 ≤ largestCharged
-    charged-small j l = omega (arith, sets-low _ _ _ _ _ _ _ w largestBound mostCount fact-small j l, laid .facts-high)
+    charged-small j l = omega (arith, sets-low _ _ _ _ _ _ _ w largestBound largestVisits (λ i h. fact-small i h p) j l, laid .facts-high)
 
     pub entered-small : (j : ℕ) → j < Sizes.setsByLimits → getD entries j 0 ≤ largestEntered
-    entered-small j l = omega (arith, limits-low _ _ _ _ _ _ _ w largestBound mostCount fact-small j l, laid .facts-high)
+    entered-small j l = omega (arith, limits-low _ _ _ _ _ _ _ w largestBound largestVisits (λ i h. fact-small i h p) j l, laid .facts-high)
 
   module _ (fetched spent : List ℕ) (w : NodesAdded (caseOf f trailer) (trailer .nodes) fetched spent) where
     both : (v : ℕ) → v < trailer .nodes → (weight (caseOf f trailer) v ≤ mostCount) × (weight (caseOf f trailer) v ≤ mostCount)

@@ -60,19 +60,19 @@ module _ (e : Case) where
   abbrev pub setOfNode : ℕ → ℕ
   setOfNode v = e .block v % e .sets
 
-  -- the first n facts are added: their bounds by set, and what they are charged with by set and limit
-  abbrev pub FactsAdded : ℕ → List ℕ → List ℕ → Type 0
-  FactsAdded n charged entries = Grouped setOfFact (λ i. e .fact i .limit) (λ i. factBound e (e .fact i)) (λ i. entered e (e .fact i)) n charged entries
+  -- the first n facts are added, p the interruptions: their bounds by set, and what they are charged with by set and limit
+  abbrev pub FactsAdded : ℕ → ℕ → List ℕ → List ℕ → Type 0
+  FactsAdded p n charged entries = Grouped setOfFact (λ i. e .fact i .limit) (λ i. factBound e p (e .fact i)) (λ i. entered e p (e .fact i)) n charged entries
 
   -- the first n nodes are added: their counts by set, and by set and least limit
   abbrev pub NodesAdded : ℕ → List ℕ → List ℕ → Type 0
   NodesAdded n fetched spent = Grouped setOfNode (lowestLimit e (e .facts)) weight weight n fetched spent
 
   -- the numbers while they are written: the total is T, the first Q sets and the first I facts have their bounds
-  pub record Part (T Q I : ℕ) (old new : List ℕ) : Type 0 where
+  pub record Part (p T Q I : ℕ) (old new : List ℕ) : Type 0 where
     pub all : listLength ≤ length old
     pub room : length new ≡ length old
-    pub is : (i : ℕ) → i < listLength → getD new i 0 ≡ partAt e T Q I i
+    pub is : (i : ℕ) → i < listLength → getD new i 0 ≡ partAt e p T Q I i
     pub later : drop listLength new ≡ drop listLength old
 
 module _ (f : List ℕ) (trailer : Trailer) (p : ℕ) where
@@ -87,13 +87,13 @@ module _ (f : List ℕ) (trailer : Trailer) (p : ℕ) where
         next = factEnd f trailer p;
       }
 
-  -- what it costs, and where it ends
-  unfoldable pub costOf : Cost
-  costOf =
+  -- what it costs where a walk is interrupted so often, and where it ends
+  unfoldable pub costOf : ℕ → Cost
+  costOf interruptions =
       record {
         block = u16At f (p + 2);
         limit = u16At f (p + 4);
-        entered = entered (caseOf f trailer) (factAt f p);
-        bound = factBound (caseOf f trailer) (factAt f p);
+        entered = entered (caseOf f trailer) interruptions (factAt f p);
+        bound = factBound (caseOf f trailer) interruptions (factAt f p);
         next = factEnd f trailer p;
       }

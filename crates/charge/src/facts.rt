@@ -34,6 +34,7 @@ fn charge_fact(
     file: &[u8],
     trailer: Trailer,
     counts: &[u32],
+    interruptions: u16,
     outers: &[u16; LOOPS],
     chain: &[u16; CHAINED],
     p: usize,
@@ -45,14 +46,14 @@ fn charge_fact(
     requires { ⌜ SoundHead (Files.caseOf (now file) trailer) (Files.factAt (now file) p) ⌝ }
     requires { ⌜ Files.factEnd (now file) trailer p ≤ Files.endAt (now file) ⌝ }
     requires { ⌜ Chained.Limits (Files.caseOf (now file) trailer) (now cover) ⌝ }
-    ensures { λ r. ⌜ r ≡ Tables.costOf (now (file .entry)) trailer p ⌝ }
+    ensures { λ r. ⌜ r ≡ Tables.costOf (now (file .entry)) trailer p interruptions ⌝ }
     ensures { λ r. ⌜ Chained.Lowered (Files.caseOf (now (file .entry)) trailer) (Bounds.covers (Files.caseOf (now (file .entry)) trailer) (Files.factAt (now (file .entry)) p)) (Files.factAt (now (file .entry)) p .limit) (now (cover .entry)) (now (cover .exit)) ⌝ }
 {
     let h = heads::head_at(file, trailer, counts, p);
     let e = outers::entries_of(file, trailer, counts, outers, p, h);
     let n = chains::cover_nodes(file, trailer, counts, chain, h, cover);
-    // "every bound uses the lesser of E and N in place of E"
-    let x = formulas::lesser(e, n);
+    // "Every fact's E becomes the lesser of E + p and N"
+    let x = formulas::entered(e, interruptions, n);
     Cost {
         block: h.block,
         limit: h.limit,
@@ -67,6 +68,7 @@ fn charge_each(
     file: &[u8],
     trailer: Trailer,
     counts: &[u32],
+    interruptions: u16,
     outers: &[u16; LOOPS],
     chain: &[u16; CHAINED],
     cover: &mut [u16; NODES],
@@ -78,17 +80,26 @@ fn charge_each(
     requires { ⌜ NextOut.Outers (Files.caseOf (now file) trailer) (trailer .loops) (now outers) ⌝ }
     requires { ⌜ Chained.Chained (Files.caseOf (now file) trailer) (trailer .nodes) (now chain) ⌝ }
     requires { ⌜ Chained.Covered (Files.caseOf (now file) trailer) 0 (now cover) ⌝ }
-    requires { ⌜ Tables.FactsAdded (Files.caseOf (now file) trailer) 0 (now charged) (now entered) ⌝ }
-    requires { ⌜ Tables.Part (Files.caseOf (now file) trailer) 0 0 0 (now numbers) (now numbers) ⌝ }
+    requires { ⌜ Tables.FactsAdded (Files.caseOf (now file) trailer) interruptions 0 (now charged) (now entered) ⌝ }
+    requires { ⌜ Tables.Part (Files.caseOf (now file) trailer) interruptions 0 0 0 (now numbers) (now numbers) ⌝ }
     ensures { λ r. ⌜ Chained.Covered (Files.caseOf (now (file .entry)) trailer) (trailer .facts) (now (cover .exit)) ⌝ }
-    ensures { λ r. ⌜ Tables.FactsAdded (Files.caseOf (now (file .entry)) trailer) (trailer .facts) (now (charged .exit)) (now (entered .exit)) ⌝ }
-    ensures { λ r. ⌜ Tables.Part (Files.caseOf (now (file .entry)) trailer) 0 0 (trailer .facts) (now (numbers .entry)) (now (numbers .exit)) ⌝ }
+    ensures { λ r. ⌜ Tables.FactsAdded (Files.caseOf (now (file .entry)) trailer) interruptions (trailer .facts) (now (charged .exit)) (now (entered .exit)) ⌝ }
+    ensures { λ r. ⌜ Tables.Part (Files.caseOf (now (file .entry)) trailer) interruptions 0 0 (trailer .facts) (now (numbers .entry)) (now (numbers .exit)) ⌝ }
 {
     let n = trailer.facts as usize;
     let mut p = layout::facts_at(trailer);
     let mut i: usize = 0;
     while i < n {
-        let c = charge_fact(file, trailer, counts, outers, chain, p, cover);
+        let c = charge_fact(
+            file,
+            trailer,
+            counts,
+            interruptions,
+            outers,
+            chain,
+            p,
+            cover,
+        );
         amounts::add(
             charged,
             entered,
@@ -109,6 +120,7 @@ pub fn charge_facts(
     file: &[u8],
     trailer: Trailer,
     counts: &[u32],
+    interruptions: u16,
     cover: &mut [u16; NODES],
     charged: &mut [u64; SETS],
     entered: &mut [u64; SETS_BY_LIMITS],
@@ -116,11 +128,11 @@ pub fn charge_facts(
 )
     requires { ⌜ Ready (now file) trailer (now counts) ⌝ }
     requires { ⌜ Chained.Covered (Files.caseOf (now file) trailer) 0 (now cover) ⌝ }
-    requires { ⌜ Tables.FactsAdded (Files.caseOf (now file) trailer) 0 (now charged) (now entered) ⌝ }
-    requires { ⌜ Tables.Part (Files.caseOf (now file) trailer) 0 0 0 (now numbers) (now numbers) ⌝ }
+    requires { ⌜ Tables.FactsAdded (Files.caseOf (now file) trailer) interruptions 0 (now charged) (now entered) ⌝ }
+    requires { ⌜ Tables.Part (Files.caseOf (now file) trailer) interruptions 0 0 0 (now numbers) (now numbers) ⌝ }
     ensures { λ r. ⌜ Chained.Covered (Files.caseOf (now (file .entry)) trailer) (trailer .facts) (now (cover .exit)) ⌝ }
-    ensures { λ r. ⌜ Tables.FactsAdded (Files.caseOf (now (file .entry)) trailer) (trailer .facts) (now (charged .exit)) (now (entered .exit)) ⌝ }
-    ensures { λ r. ⌜ Tables.Part (Files.caseOf (now (file .entry)) trailer) 0 0 (trailer .facts) (now (numbers .entry)) (now (numbers .exit)) ⌝ }
+    ensures { λ r. ⌜ Tables.FactsAdded (Files.caseOf (now (file .entry)) trailer) interruptions (trailer .facts) (now (charged .exit)) (now (entered .exit)) ⌝ }
+    ensures { λ r. ⌜ Tables.Part (Files.caseOf (now (file .entry)) trailer) interruptions 0 0 (trailer .facts) (now (numbers .entry)) (now (numbers .exit)) ⌝ }
 {
     let mut outers: [u16; LOOPS] = [0; LOOPS];
     let mut chain: [u16; CHAINED] = [0; CHAINED];
@@ -130,6 +142,7 @@ pub fn charge_facts(
         file,
         trailer,
         counts,
+        interruptions,
         &outers,
         &chain,
         cover,

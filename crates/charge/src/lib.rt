@@ -39,13 +39,19 @@ fn clear(numbers: &mut [u64])
 }
 
 // All numbers: "the total, 64 set bounds, 256 fact bounds, unused ones 0, later ones untouched".
-pub fn charge(file: &[u8], trailer: Trailer, counts: &[u32], numbers: &mut [u64])
+pub fn charge(
+    file: &[u8],
+    trailer: Trailer,
+    counts: &[u32],
+    interruptions: u16,
+    numbers: &mut [u64],
+)
     requires { ⌜ Laid (now file) trailer ⌝ }
     requires { ⌜ Sound (Files.caseOf (now file) trailer) ⌝ }
     requires { ⌜ Placed (now file) trailer ⌝ }
     requires { ⌜ Counted (now file) trailer (now counts) ⌝ }
     requires { ⌜ Bounds.listLength ≤ length (now numbers) ⌝ }
-    ensures { λ r. ⌜ now (numbers .exit) ≡ Bounds.numbers (Files.caseOf (now (file .entry)) trailer) ++ drop Bounds.listLength (now (numbers .entry)) ⌝ }
+    ensures { λ r. ⌜ now (numbers .exit) ≡ Bounds.numbers (Files.caseOf (now (file .entry)) trailer) interruptions ++ drop Bounds.listLength (now (numbers .entry)) ⌝ }
 {
     let mut cover: [u16; NODES] = [NO_LIMIT; NODES];
     let mut charged: [u64; SETS] = [0; SETS];
@@ -57,11 +63,21 @@ pub fn charge(file: &[u8], trailer: Trailer, counts: &[u32], numbers: &mut [u64]
         file,
         trailer,
         counts,
+        interruptions,
         &mut cover,
         &mut charged,
         &mut entered,
         numbers,
     );
     nodes::charge_nodes(file, trailer, counts, &cover, &mut fetched, &mut spent);
-    sets::charge_sets(file, trailer, &charged, &entered, &fetched, &spent, numbers);
+    sets::charge_sets(
+        file,
+        trailer,
+        interruptions,
+        &charged,
+        &entered,
+        &fetched,
+        &spent,
+        numbers,
+    );
 }

@@ -1,4 +1,4 @@
-// The pass over the sets: the set bounds and the total, from the sums of the facts and the nodes. (The file is lent for the contracts.)
+// The pass over the sets: the set bounds and the total, from the sums of the facts and the nodes. (The file is lent, and the interruptions are handed over, for the contracts.)
 ghost use mathlib.Core.Path.{_≡_};
 ghost use Prim.Native.Nat.{_<_, _≤_};
 ghost use Rattle.paper.specs.Lists.{lowestTo};
@@ -19,6 +19,7 @@ use paper::Trailer;
 fn least_floor(
     file: &[u8],
     trailer: Trailer,
+    interruptions: u16,
     charged: &[u64; SETS],
     entered: &[u64; SETS_BY_LIMITS],
     fetched: &[u64; SETS],
@@ -26,9 +27,9 @@ fn least_floor(
     q: usize,
     a: u64,
 ) -> u64
-    requires { ⌜ Summed (now file) trailer (now charged) (now entered) (now fetched) (now spent) ⌝ }
+    requires { ⌜ Summed (now file) trailer interruptions (now charged) (now entered) (now fetched) (now spent) ⌝ }
     requires { ⌜ q < Sizes.sets ⌝ }
-    ensures { λ r. ⌜ r ≡ lowestTo (Bounds.floorAt (Files.caseOf (now (file .entry)) trailer) q) a (trailer .ways) ⌝ }
+    ensures { λ r. ⌜ r ≡ lowestTo (Bounds.floorAt (Files.caseOf (now (file .entry)) trailer) interruptions q) a (trailer .ways) ⌝ }
     ensures { λ r. ⌜ r ≤ a ⌝ }
 {
     let k = trailer.ways as u64;
@@ -49,20 +50,31 @@ fn least_floor(
 fn set_bound(
     file: &[u8],
     trailer: Trailer,
+    interruptions: u16,
     charged: &[u64; SETS],
     entered: &[u64; SETS_BY_LIMITS],
     fetched: &[u64; SETS],
     spent: &[u64; SETS_BY_LIMITS],
     q: usize,
 ) -> u64
-    requires { ⌜ Summed (now file) trailer (now charged) (now entered) (now fetched) (now spent) ⌝ }
+    requires { ⌜ Summed (now file) trailer interruptions (now charged) (now entered) (now fetched) (now spent) ⌝ }
     requires { ⌜ q < Sizes.sets ⌝ }
-    ensures { λ r. ⌜ r ≡ Bounds.setBound (Files.caseOf (now (file .entry)) trailer) q ⌝ }
+    ensures { λ r. ⌜ r ≡ Bounds.setBound (Files.caseOf (now (file .entry)) trailer) interruptions q ⌝ }
     ensures { λ r. ⌜ r ≤ Largest.largestA ⌝ }
 {
     let a = charged[q] + spent[LIMITS * q + NO_LIMIT as usize];
     if paper::has_floors(trailer.policy) {
-        return least_floor(file, trailer, charged, entered, fetched, spent, q, a);
+        return least_floor(
+            file,
+            trailer,
+            interruptions,
+            charged,
+            entered,
+            fetched,
+            spent,
+            q,
+            a,
+        );
     }
     a
 }
@@ -71,21 +83,31 @@ fn set_bound(
 pub fn charge_sets(
     file: &[u8],
     trailer: Trailer,
+    interruptions: u16,
     charged: &[u64; SETS],
     entered: &[u64; SETS_BY_LIMITS],
     fetched: &[u64; SETS],
     spent: &[u64; SETS_BY_LIMITS],
     numbers: &mut [u64],
 )
-    requires { ⌜ Summed (now file) trailer (now charged) (now entered) (now fetched) (now spent) ⌝ }
-    requires { ⌜ Tables.Part (Files.caseOf (now file) trailer) 0 0 (trailer .facts) (now numbers) (now numbers) ⌝ }
-    ensures { λ r. ⌜ Tables.Part (Files.caseOf (now (file .entry)) trailer) (Bounds.totalBound (Files.caseOf (now (file .entry)) trailer)) (trailer .sets) (trailer .facts) (now (numbers .entry)) (now (numbers .exit)) ⌝ }
+    requires { ⌜ Summed (now file) trailer interruptions (now charged) (now entered) (now fetched) (now spent) ⌝ }
+    requires { ⌜ Tables.Part (Files.caseOf (now file) trailer) interruptions 0 0 (trailer .facts) (now numbers) (now numbers) ⌝ }
+    ensures { λ r. ⌜ Tables.Part (Files.caseOf (now (file .entry)) trailer) interruptions (Bounds.totalBound (Files.caseOf (now (file .entry)) trailer) interruptions) (trailer .sets) (trailer .facts) (now (numbers .entry)) (now (numbers .exit)) ⌝ }
 {
     let n = trailer.sets as usize;
     let mut total: u64 = 0;
     let mut q: usize = 0;
     while q < n {
-        let x = set_bound(file, trailer, charged, entered, fetched, spent, q);
+        let x = set_bound(
+            file,
+            trailer,
+            interruptions,
+            charged,
+            entered,
+            fetched,
+            spent,
+            q,
+        );
         numbers[SETS_FROM + q] = x;
         total += x;
         q += 1;

@@ -28,15 +28,15 @@ refused-as low t t′ e n = subst (λ (u : Told). u .values ≡ none → low ≤
 number-as : (low r : ℕ) (n : ℕ) → r ≡ n → low ≤ n → low ≤ r
 number-as low r n e h = omega arith
 
-module _ (file lent : List ℕ) (r at within : ℕ) (after : List ℕ) where
+module _ (file : List ℕ) (interruptions : ℕ) (lent : List ℕ) (r at within : ℕ) (after : List ℕ) where
   accepted : (v : Verdict) → (toldVerdict v .values ≡ none → 1 ≤ toldVerdict v .number) → toldVerdict v .number ≡ 0 → v ≡ Accepted
   accepted Accepted n e = refl
   accepted (Refused why) n e =
       let l = n refl in
       absurd (omega arith)
 
-  pub check-call : (v : Verdict) → CheckPromise file lent v after → r ≡ toldVerdict v .number → at ≡ toldVerdict v .place → within ≡ toldVerdict v .second →
-      CheckCall file lent r at within after
+  pub check-call : (v : Verdict) → CheckPromise file interruptions lent v after → r ≡ toldVerdict v .number → at ≡ toldVerdict v .place → within ≡ toldVerdict v .second →
+      CheckCall file interruptions lent r at within after
   check-call v p n a s =
       let k = refused-as 1 _ _ (p .told) (verdict-numbered file (length lent) .refused) in
       record {

@@ -18,10 +18,10 @@ use Rattle.exports.specs.Calls.{CheckCall, WriteCall, FindCall, SalvageC
 same : {A B : Type 0} (f : A → B) {v v′ : A} {x x′ : B} → v ≡ v′ → x ≡ f v → x′ ≡ f v′ → x ≡ x′
 same f e p q = p ∙ ap f e ∙ sym q
 
-module _ (file lent : List ℕ) (r r′ at at′ within within′ : ℕ) (after after′ : List ℕ) where
-  pub check-call-determined : CheckCall file lent r at within after → CheckCall file lent r′ at′ within′ after′ → (r ≡ r′) × (at ≡ at′) × (within ≡ within′) × (after ≡ after′)
+module _ (file : List ℕ) (interruptions : ℕ) (lent : List ℕ) (r r′ at at′ within within′ : ℕ) (after after′ : List ℕ) where
+  pub check-call-determined : CheckCall file interruptions lent r at within after → CheckCall file interruptions lent r′ at′ within′ after′ → (r ≡ r′) × (at ≡ at′) × (within ≡ within′) × (after ≡ after′)
   check-call-determined p q =
-      let e = check-determined file lent _ _ _ _ (p .promise) (q .promise) in (
+      let e = check-determined file interruptions lent _ _ _ _ (p .promise) (q .promise) in (
         same (λ (v : Verdict). toldVerdict v .number) (e .0) (p .number) (q .number),
         same (λ (v : Verdict). toldVerdict v .place) (e .0) (p .place) (q .place),
         same (λ (v : Verdict). toldVerdict v .second) (e .0) (p .second) (q .second),

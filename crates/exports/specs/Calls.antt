@@ -19,14 +19,14 @@ use Rattle.paper.specs.Demands.{Holds}
 use Rattle.bolgverk.specs.Promises.{StepPromise, BlockPromise, SetPromise, TracePromise, CheckPromise, WritePromise, FindPromise, SalvagePromise}
 
 -- The refusal's number, or 0; its places, or 0; the lent numbers afterwards. `holds`: demand 3's bounds, where 0 is returned; its other half is in the promise.
-pub record CheckCall (file lent : List ℕ) (r at within : ℕ) (after : List ℕ) : Type 0 where
+pub record CheckCall (file : List ℕ) (interruptions : ℕ) (lent : List ℕ) (r at within : ℕ) (after : List ℕ) : Type 0 where
   pub answer : Verdict
-  pub promise : CheckPromise file lent answer after
+  pub promise : CheckPromise file interruptions lent answer after
   pub number : r ≡ toldVerdict answer .number
   pub place : at ≡ toldVerdict answer .place
   pub second : within ≡ toldVerdict answer .second
   pub refused : toldVerdict answer .values ≡ none → 1 ≤ r
-  pub holds : r ≡ 0 → Holds (readCase file) after
+  pub holds : r ≡ 0 → Holds (readCase file) interruptions after
 
 -- The refusal's number, or 0; its places, or 0; how long the file is; the lent bytes afterwards.
 pub record WriteCall (version policy ways sets : ℕ) (nodes edges loops heads rows lent : List ℕ) (before r size at within : ℕ) (after : List ℕ) : Type 0 where

@@ -5,17 +5,18 @@ use paper::Address;
 use paper::Block;
 use paper::SetState;
 
-// The refusal's number, 0 where the file is accepted; `place` and `second` get the refusal's places, or 0.
+// The refusal's number, 0 where the file is accepted; `place` and `second` get the refusal's places, or 0. "The caller hands the greatest number p of such interruptions, 0 to 65,535."
 #[no_mangle]
 pub extern "C" fn bolgverk_check(
     file: &[u8],
+    interruptions: u16,
     numbers: &mut [u64],
     place: &mut u64,
     second: &mut u64,
 ) -> u8
-    ensures { λ r. ⌜ CheckCall (now (file .entry)) (now (numbers .entry)) r (now (place .exit)) (now (second .exit)) (now (numbers .exit)) ⌝ }
+    ensures { λ r. ⌜ CheckCall (now (file .entry)) interruptions (now (numbers .entry)) r (now (place .exit)) (now (second .exit)) (now (numbers .exit)) ⌝ }
 {
-    telling::check(bolgverk::check(file, numbers), place, second)
+    telling::check(bolgverk::check(file, interruptions, numbers), place, second)
 }
 
 // The refusal's number, or 0; `place` and `second` get the refusal's places, or 0; `length` gets the file's, where nothing is refused.

@@ -2,19 +2,19 @@
 use Prim.Native.Nat.{ℕ, _+_, _*_}
 use Rattle.paper.specs.Ceilings.{mostNodes, mostFacts, mostCount}
 
--- E is a count, or 1; N: the counts of at most 1,024 nodes
+-- N: the counts of at most 1,024 nodes. The lesser of E + p and N is no larger, whatever p is.
 abbrev pub largestVisits : ℕ
 largestVisits = mostNodes * mostCount
 
--- a fact's bound: never above E and N together
+-- a fact's bound: never above that lesser and N together
 abbrev pub largestBound : ℕ
-largestBound = largestVisits + mostCount
+largestBound = 2 * largestVisits
 
--- the E of a set's facts, of which there are at most 256
+-- those lessers of a set's facts, of which there are at most 256
 abbrev pub largestEntered : ℕ
-largestEntered = mostFacts * mostCount
+largestEntered = mostFacts * largestVisits
 
--- M(l): all that the set's nodes fetch, and the E of its facts of each limit up to 8
+-- M(l): all that the set's nodes fetch, and the lessers of its facts of each limit up to 8
 abbrev pub largestM : ℕ
 largestM = largestVisits + 8 * largestEntered
 

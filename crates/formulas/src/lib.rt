@@ -1,6 +1,6 @@
 // The paper's formulas: the bound of a fact, a policy's lines each, and the floor of M(l).
 ghost use mathlib.Core.Path.{_≡_};
-ghost use Prim.Native.Nat.{_-_, _≤_, min};
+ghost use Prim.Native.Nat.{_+_, _-_, _≤_, min};
 ghost use Rattle.paper.specs.Bounds as Bounds;
 ghost use Rattle.paper.specs.Ceilings as Ceilings;
 ghost use Rattle.formulas.specs.Largest as Largest;
@@ -10,6 +10,14 @@ pub fn lesser(x: u64, y: u64) -> u64
     ensures { λ r. ⌜ r ≡ min x y ⌝ }
 {
     if x < y { x } else { y }
+}
+
+// "the lesser of E + p and N"
+pub fn entered(e: u64, interruptions: u16, n: u64) -> u64
+    requires { ⌜ e ≤ Ceilings.mostCount ⌝ }
+    ensures { λ r. ⌜ r ≡ min (e + interruptions) n ⌝ }
+{
+    lesser(e + interruptions as u64, n)
 }
 
 fn less(x: u64, y: u64) -> u64
@@ -33,7 +41,7 @@ fn ratio(k: u64, l: u64) -> u64
 fn fifo_bound(k: u64, l: u64, e: u64, n: u64) -> u64
     requires { ⌜ l ≤ k ⌝ }
     requires { ⌜ k ≤ 8 ⌝ }
-    requires { ⌜ e ≤ Ceilings.mostCount ⌝ }
+    requires { ⌜ e ≤ Largest.largestVisits ⌝ }
     requires { ⌜ n ≤ Largest.largestVisits ⌝ }
     ensures { λ r. ⌜ r ≡ Bounds.fifoBound k l e n ⌝ }
 {
@@ -47,7 +55,7 @@ fn fifo_bound(k: u64, l: u64, e: u64, n: u64) -> u64
 fn nmru_bound(k: u64, l: u64, e: u64, n: u64) -> u64
     requires { ⌜ l ≤ k ⌝ }
     requires { ⌜ k ≤ 8 ⌝ }
-    requires { ⌜ e ≤ Ceilings.mostCount ⌝ }
+    requires { ⌜ e ≤ Largest.largestVisits ⌝ }
     ensures { λ r. ⌜ r ≡ Bounds.nmruBound k l e n ⌝ }
 {
     if l < 3 {
@@ -73,7 +81,7 @@ fn tree_bound(k: u64, l: u64, e: u64, n: u64) -> u64
 pub fn bound_of(policy: u8, k: u64, l: u64, e: u64, n: u64) -> u64
     requires { ⌜ l ≤ k ⌝ }
     requires { ⌜ k ≤ 8 ⌝ }
-    requires { ⌜ e ≤ Ceilings.mostCount ⌝ }
+    requires { ⌜ e ≤ Largest.largestVisits ⌝ }
     requires { ⌜ n ≤ Largest.largestVisits ⌝ }
     ensures { λ r. ⌜ r ≡ Bounds.boundOf policy k l e n ⌝ }
 {

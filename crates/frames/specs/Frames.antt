@@ -170,18 +170,18 @@ module _ (r : List ℕ) where
         let accesses = u32At r Places.traceAccesses in
         traceRun (u8At r 0) (u8At r Places.traceWays) (u8At r Places.traceSets) (u16s lent accesses) (drop (2 * accesses) lent)
 
-    -- "file bytes n u32, numbers m u32, then n bytes, then m numbers u64 each"
+    -- "interruptions u16, file bytes n u32, numbers m u32, then n bytes, then m numbers u64 each"
     abbrev pub file : List ℕ
-    file = take (u32At r 0) lent
+    file = take (u32At r Places.checkFile) lent
 
     abbrev pub numbers : List ℕ
-    numbers = u64s (drop (u32At r 0) lent) (u32At r Places.checkNumbers)
+    numbers = u64s (drop (u32At r Places.checkFile) lent) (u32At r Places.checkNumbers)
 
     unfoldable pub checkAsked : Verdict
     checkAsked = verdict file (length numbers)
 
     unfoldable pub numbersAfter : List ℕ
-    numbersAfter = lentAfter file numbers checkAsked
+    numbersAfter = lentAfter file (u16At r 0) numbers checkAsked
 
     -- "scope u16, block u16, file bytes n u32, numbers m u32, then n bytes, then m numbers u16 each"
     abbrev pub fileSearched : List ℕ
@@ -199,7 +199,7 @@ module _ (r : List ℕ) where
     salvageAsked =
         let rest = drop (u32At r 0) lent in
         let m = u32At r Places.salvageOut in
-        salvageLeft file (take m rest) (u64s (drop m rest) (u32At r Places.salvageNumbers))
+        salvageLeft (take (u32At r 0) lent) (take m rest) (u64s (drop m rest) (u32At r Places.salvageNumbers))
 
   -- Where each list of a writer begins in its lent memory, and where the lent bytes do: after all that stands before.
   abbrev pub edgesFrom : ℕ

@@ -90,12 +90,15 @@ traceAccesses = offset traceFields 3
 abbrev pub traceMarks : ℕ
 traceMarks = offset traceFields 4
 
--- "file bytes n u32, numbers m u32"
+-- "interruptions u16, file bytes n u32, numbers m u32"
 abbrev pub checkFields : List ℕ
-checkFields = bits32 ∷ bits32 ∷ []
+checkFields = bits16 ∷ bits32 ∷ bits32 ∷ []
+
+abbrev pub checkFile : ℕ
+checkFile = offset checkFields 1
 
 abbrev pub checkNumbers : ℕ
-checkNumbers = offset checkFields 1
+checkNumbers = offset checkFields 2
 
 -- "version u8, policy u8, ways u8, sets u8, six counts u32 each: how many numbers there are in nodes, edges, loops, heads and rows, and how many bytes m are lent"
 abbrev pub writeFields : List ℕ

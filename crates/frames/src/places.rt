@@ -46,7 +46,7 @@ pub const SET_SIZE: usize = 3;
 
 pub const TRACE_SIZE: usize = 11;
 
-pub const CHECK_SIZE: usize = 8;
+pub const CHECK_SIZE: usize = 10;
 
 pub const WRITE_SIZE: usize = 28;
 
@@ -77,7 +77,9 @@ pub const TRACE_ACCESSES: usize = 3;
 
 pub const TRACE_MARKS: usize = 7;
 
-pub const CHECK_NUMBERS: usize = 4;
+pub const CHECK_FILE: usize = 2;
+
+pub const CHECK_NUMBERS: usize = 6;
 
 pub const WRITE_POLICY: usize = 1;
 

@@ -28,14 +28,14 @@ use Rattle.puts.proofs.Putting.{put-length, put-whole}
 use Rattle.listing.specs.Listed.{after, numberLines, Printed}
 use Rattle.listing.proofs.Numbered.{lines-same}
 
-numbers-text : (e : Case) (rest : List ℕ) → e .sets ≤ 64 → e .facts ≤ 256 → numberLines (numbers e ++ rest) (e .sets) (e .facts) ≡ accepted e
+numbers-text : (e : Case) (p : ℕ) (rest : List ℕ) → e .sets ≤ 64 → e .facts ≤ 256 → numberLines (numbers e p ++ rest) (e .sets) (e .facts) ≡ accepted e p
 unfolding boundLines
-numbers-text e rest s f =
-    let b = numbers e ++ rest in
+numbers-text e p rest s f =
+    let b = numbers e p ++ rest in
     rw (
-      total-printed e rest,
-      lines-same _ (after b 1) (setBound e) 0 (e .sets) (λ q h. set-printed e rest q (omega arith) (omega arith)),
-      lines-same _ (after b 65) (λ i. factBound e (e .fact i)) 0 (e .facts) (λ i h. fact-printed e rest i (omega arith) (omega arith)),
+      total-printed e p rest,
+      lines-same _ (after b 1) (setBound e p) 0 (e .sets) (λ q h. set-printed e p rest q (omega arith) (omega arith)),
+      lines-same _ (after b 65) (λ i. factBound e p (e .fact i)) 0 (e .facts) (λ i h. fact-printed e p rest i (omega arith) (omega arith)),
     )
 
 -- a text that is put at the start
@@ -47,33 +47,33 @@ printed-whole f p =
 pub printed-as : {text other l m : List ℕ} {r : ℕ} → text ≡ other → Printed text l r m → Printed other l r m
 printed-as {text} {other} {l} {m} {r} e p = subst (λ (t : List ℕ). Printed t l r m) e p
 
-module _ (f : List ℕ) where
-  pub refused-text : (v : Verdict) (r : Refusal) → v ≡ verdict f 321 → v ≡ Refused r → refusalLine r ≡ printed f (verdict f 321)
-  refused-text v r a e = ap (printed f) (sym e ∙ a)
+module _ (f : List ℕ) (p : ℕ) where
+  pub refused-text : (v : Verdict) (r : Refusal) → v ≡ verdict f 321 → v ≡ Refused r → refusalLine r ≡ printed f p (verdict f 321)
+  refused-text v r a e = ap (printed f p) (sym e ∙ a)
 
-  pub layout-text : (r : Refusal) → layoutOf f ≡ Layouts.Refused r → refusalLine r ≡ printed f (verdict f 321)
+  pub layout-text : (r : Refusal) → layoutOf f ≡ Layouts.Refused r → refusalLine r ≡ printed f p (verdict f 321)
   unfolding verdict
-  layout-text r e = ap (printed f) (sym (refused-rules f r _ e))
+  layout-text r e = ap (printed f p) (sym (refused-rules f r _ e))
 
-  pub accepted-text : (lent after : List ℕ) (trailer : Trailer) (v : Verdict) → layoutOf f ≡ Layouts.Read trailer → v ≡ verdict f 321 → after ≡ lentAfter f lent v → v ≡ Accepted →
-      numberLines after (trailer .sets) (trailer .facts) ≡ printed f (verdict f 321)
+  pub accepted-text : (lent after : List ℕ) (trailer : Trailer) (v : Verdict) → layoutOf f ≡ Layouts.Read trailer → v ≡ verdict f 321 → after ≡ lentAfter f p lent v → v ≡ Accepted →
+      numberLines after (trailer .sets) (trailer .facts) ≡ printed f p (verdict f 321)
   unfolding caseOf
   accepted-text lent after trailer v l a n e =
       let d : Laid f (trailerOf f) = rw (read-trailer f trailer l) at (read-laid f trailer l) in
-      rw (n, ← a, e, read-trailer f trailer l) (numbers-text (readCase f) (drop 321 lent) (d .sets-high) (d .facts-high))
+      rw (n, ← a, e, read-trailer f trailer l) (numbers-text (readCase f) p (drop 321 lent) (d .sets-high) (d .facts-high))
 
-  pub longer : (r : Refusal) → 65536 < length f → r ≡ refuse 28 0 → refusalLine r ≡ listingOf f
+  pub longer : (r : Refusal) → 65536 < length f → r ≡ refuse 28 0 → refusalLine r ≡ listingOf f p
   unfolding listingOf
   longer r h e = rw (lt-ltb 65536 (length f) h) (ap refusalLine e)
 
-  pub not-longer : length f ≤ 65536 → printed f (verdict f 321) ≡ listingOf f
+  pub not-longer : length f ≤ 65536 → printed f p (verdict f 321) ≡ listingOf f p
   unfolding listingOf
   not-longer h = rw (le-ltb 65536 (length f) h) refl
 
 -- one byte more than is allowed shows that the input is longer: what the program reads has the listing of the whole
-pub listing-read : (input : List ℕ) → listingOf (take 65537 input) ≡ listingOf input
+pub listing-read : (input : List ℕ) (p : ℕ) → listingOf (take 65537 input) p ≡ listingOf input p
 unfolding listingOf
-listing-read input =
+listing-read input p =
     dite (decLe (length input) 65537)
     (λ (h : length input ≤ 65537). rw (take-all 65537 input h) refl)
     (λ (h : ¬ (length input ≤ 65537)).

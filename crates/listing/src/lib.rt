@@ -53,11 +53,11 @@ fn refused(out: &mut [u8; LONGEST], why: Refusal) -> usize
 }
 
 // A file that the check accepts has a layout, so the refusal below it is never met.
-fn checked(file: &[u8], out: &mut [u8; LONGEST]) -> usize
-    ensures { λ r. ⌜ Listed.Printed (printed (now (file .entry)) (Verdicts.verdict (now (file .entry)) listLength)) (now (out .entry)) r (now (out .exit)) ⌝ }
+fn checked(file: &[u8], interruptions: u16, out: &mut [u8; LONGEST]) -> usize
+    ensures { λ r. ⌜ Listed.Printed (printed (now (file .entry)) interruptions (Verdicts.verdict (now (file .entry)) listLength)) (now (out .entry)) r (now (out .exit)) ⌝ }
 {
     let mut numbers = [0u64; LIST_LENGTH];
-    match bolgverk::check(file, &mut numbers) {
+    match bolgverk::check(file, interruptions, &mut numbers) {
         Verdict::Refused(r) => refused(out, r),
         Verdict::Accepted => match layout::layout_of(file) {
             Layout::Refused(r) => refused(out, r),
@@ -72,12 +72,12 @@ fn checked(file: &[u8], out: &mut [u8; LONGEST]) -> usize
 }
 
 // "the program reads at most 65,536 bytes and prints `refused 28 0` for longer input", since the second place `refused 28 0 0`
-pub fn listing(input: &[u8], out: &mut [u8; LONGEST]) -> usize
-    ensures { λ r. ⌜ Listed.Printed (listingOf (now (input .entry))) (now (out .entry)) r (now (out .exit)) ⌝ }
+pub fn listing(input: &[u8], interruptions: u16, out: &mut [u8; LONGEST]) -> usize
+    ensures { λ r. ⌜ Listed.Printed (listingOf (now (input .entry)) interruptions) (now (out .entry)) r (now (out .exit)) ⌝ }
 {
     if input.len() > LONGEST_INPUT {
         refused(out, paper::refuse(28, 0))
     } else {
-        checked(input, out)
+        checked(input, interruptions, out)
     }
 }

@@ -1,4 +1,4 @@
--- "The bounds": of a fact by its policy's lines of the table, the sums A and M(l), and the list of numbers.
+-- "The bounds": of a fact by its policy's lines of the table, the sums A and M(l), and the list of numbers, where a walk is interrupted at most p times.
 use Prim.Native.Nat.{ℕ, suc, _+_, _-_, _*_, _/_, _%_, min}
 use mathlib.Core.Bool.{Bool, true, cond, not, _&&_}
 use mathlib.Core.List.{List}
@@ -45,12 +45,13 @@ module _ (e : Case) where
   unfoldable pub counts : (ℕ → Bool) → ℕ
   counts test = sumTo (λ v. cond (test v) (count e v) 0) (e .nodes)
 
-  -- "E is its entries, N the sum of counts of its nodes that fetch b": "every bound uses the lesser of E and N in place of E", a fact's and M(l).
-  unfoldable pub entered : Fact → ℕ
-  entered t = min (entries e t) (counts (covers t))
+  -- "E is its entries, N the sum of counts of its nodes that fetch b", p "the greatest number … of such interruptions":
+  -- "Every fact's E becomes the lesser of E + p and N, in fact bounds and in M(l), for each policy."
+  unfoldable pub entered : ℕ → Fact → ℕ
+  entered p t = min (entries e t + p) (counts (covers t))
 
-  unfoldable pub factBound : Fact → ℕ
-  factBound t = boundOf (e .policy) (e .ways) (t .limit) (entered t) (counts (covers t))
+  unfoldable pub factBound : ℕ → Fact → ℕ
+  factBound p t = boundOf (e .policy) (e .ways) (t .limit) (entered p t) (counts (covers t))
 
   -- the block lives in set q
   unfoldable pub lives : ℕ → ℕ → Bool
@@ -69,42 +70,42 @@ module _ (e : Case) where
   anyFact t = true
 
   -- "The sum A of a set is its facts' bounds plus its uncovered counts."
-  unfoldable pub A : ℕ → ℕ
-  A q = sumOf anyFact factBound q
+  unfoldable pub A : ℕ → ℕ → ℕ
+  A p q = sumOf anyFact (factBound p) q
 
   abbrev pub upTo : ℕ → Fact → Bool
   upTo l t = leb (t .limit) l
 
-  -- "M(l) of a set is the sum of E over its facts with limit at most l, plus the counts of fetching nodes that no such fact covers", the lesser of E and N in place of E.
-  unfoldable pub M : ℕ → ℕ → ℕ
-  M l q = sumOf (upTo l) entered q
+  -- "M(l) of a set is the sum of E over its facts with limit at most l, plus the counts of fetching nodes that no such fact covers", the lesser of E + p and N in place of E.
+  unfoldable pub M : ℕ → ℕ → ℕ → ℕ
+  M p l q = sumOf (upTo l) (entered p) q
 
   -- "for each l from 1 to k, floor(k·M(l)/(k-l+1))"
-  unfoldable pub floorAt : ℕ → ℕ → ℕ
-  floorAt q j = floorOf (e .ways) (suc j) (M (suc j) q)
+  unfoldable pub floorAt : ℕ → ℕ → ℕ → ℕ
+  floorAt p q j = floorOf (e .ways) (suc j) (M p (suc j) q)
 
   -- "the least of A and" the floors
-  abbrev pub leastFloor : ℕ → ℕ
-  leastFloor q = lowestTo (floorAt q) (A q) (e .ways)
+  abbrev pub leastFloor : ℕ → ℕ → ℕ
+  leastFloor p q = lowestTo (floorAt p q) (A p q) (e .ways)
 
   -- "Set bound: for LRU and NMRU, A." "For FIFO, the least of A and" the floors. For the tree "Set bound: the sum A."
-  unfoldable pub setBound : ℕ → ℕ
-  setBound q = cond (partsOf (e .policy) .floors) (leastFloor q) (A q)
+  unfoldable pub setBound : ℕ → ℕ → ℕ
+  setBound p q = cond (partsOf (e .policy) .floors) (leastFloor p q) (A p q)
 
   -- "Total: the sum over sets."
-  unfoldable pub totalBound : ℕ
-  totalBound = sumTo setBound (e .sets)
+  unfoldable pub totalBound : ℕ → ℕ
+  totalBound p = sumTo (setBound p) (e .sets)
 
   -- number i where the total is T, and the first Q sets and the first I facts have their bounds: "unused ones 0"
-  abbrev pub partAt : ℕ → ℕ → ℕ → ℕ → ℕ
-  partAt T Q I i =
+  abbrev pub partAt : ℕ → ℕ → ℕ → ℕ → ℕ → ℕ
+  partAt p T Q I i =
       cond (ltb i setsFrom) T
-      (cond (ltb i factsFrom) (cond (ltb (i - setsFrom) Q) (setBound (i - setsFrom)) 0)
-      (cond (ltb (i - factsFrom) I) (factBound (e .fact (i - factsFrom))) 0))
+      (cond (ltb i factsFrom) (cond (ltb (i - setsFrom) Q) (setBound p (i - setsFrom)) 0)
+      (cond (ltb (i - factsFrom) I) (factBound p (e .fact (i - factsFrom))) 0))
 
   -- "the total, 64 set bounds, 256 fact bounds, unused ones 0": number i of all
-  unfoldable pub numberAt : ℕ → ℕ
-  numberAt i = partAt totalBound (e .sets) (e .facts) i
+  unfoldable pub numberAt : ℕ → ℕ → ℕ
+  numberAt p i = partAt p (totalBound p) (e .sets) (e .facts) i
 
-  abbrev pub numbers : List ℕ
-  numbers = table numberAt listLength
+  abbrev pub numbers : ℕ → List ℕ
+  numbers p = table (numberAt p) listLength

@@ -40,9 +40,9 @@ pub data Checked : Type 0 where
   IsFloor : ℕ → ℕ → ℕ → ℕ → Checked
   -- a step: policy, k, the lines below k, bits, block; hit, the lines below k, bits
   IsStep : ℕ → ℕ → List ℕ → ℕ → ℕ → Bool → List ℕ → ℕ → Checked
-  -- the listing of the paper's file, by policy; and the 321 numbers: total, set 0, fact 0, fact 1, all others 0
-  IsListing : ℕ → String → Checked
-  AreNumbers : ℕ → ℕ → ℕ → ℕ → ℕ → Checked
+  -- the listing of the paper's file, by policy and interruptions; and the 321 numbers: total, set 0, fact 0, fact 1, all others 0
+  IsListing : ℕ → ℕ → String → Checked
+  AreNumbers : ℕ → ℕ → ℕ → ℕ → ℕ → ℕ → Checked
 
 abbrev pub sameList : List ℕ → List ℕ → Bool
 sameList [] [] = true
@@ -62,25 +62,25 @@ abbrev pub sameStep : Stepped → Bool → SetState → Bool
 sameStep t hit s = sameBool (t .hit) hit && (sameList (t .state .lines) (s .lines) && eqb (t .state .bits) (s .bits))
 
 -- 321 numbers of a lent list of 322, each 7 before the check
-abbrev pub listed : Verdict → List ℕ → List ℕ
-listed Accepted f = lentAfter f (replicate 322 7) Accepted
-listed (Refused r) f = []
+abbrev pub listed : Verdict → List ℕ → ℕ → List ℕ
+listed Accepted f p = lentAfter f p (replicate 322 7) Accepted
+listed (Refused r) f p = []
 
 abbrev pub holdsAt : Checked → Bool
 holdsAt (IsG k l n) = eqb (g k l) n
 holdsAt (IsBound policy k l E N n) = eqb (boundOf policy k l E N) n
 holdsAt (IsFloor k l M n) = eqb (floorOf k l M) n
 holdsAt (IsStep policy k lines bits b hit lines′ bits′) = sameStep (step policy k (setOf k lines bits) b) hit (setOf k lines′ bits′)
-holdsAt (IsListing policy text) = sameList (listingOf (paperFile policy)) (bytes text)
-holdsAt (AreNumbers policy total set0 fact0 fact1) =
-    sameList (listed (verdict (paperFile policy) 322) (paperFile policy))
+holdsAt (IsListing policy p text) = sameList (listingOf (paperFile policy) p) (bytes text)
+holdsAt (AreNumbers policy p total set0 fact0 fact1) =
+    sameList (listed (verdict (paperFile policy) 322) (paperFile policy) p)
     (set (set (set (set (replicate 321 0 ++ (7 ∷ [])) 0 total) 1 set0) 65 fact0) 66 fact1)
 
 abbrev pub allHold : List Checked → Bool
 allHold [] = true
 allHold (c ∷ cs) = holdsAt c && allHold cs
 
--- 1 to 6. In 2, an N that is not given is that of E; in 6, as LRU and as NMRU the paper gives the total: "The NMRU total in case 6 becomes 2." (02, item 3)
+-- 1 to 6. In 2, an N that is not given is that of E; in 6, as LRU and as NMRU the paper gives the total: "The NMRU total in case 6 becomes 2." (02, item 3) With one interruption "total 8, set 8, facts 6 and 6" (02, item 12).
 abbrev pub checkedNumbers : List Checked
 checkedNumbers =
     IsG 2 2 2 ∷ IsG 4 2 4 ∷ IsG 4 4 2 ∷ IsG 8 3 4 ∷ IsG 8 6 2
@@ -91,10 +91,10 @@ checkedNumbers =
     ∷ IsStep 2 4 (10 ∷ 20 ∷ 12 ∷ 13 ∷ []) 11 12 true (10 ∷ 20 ∷ 12 ∷ 13 ∷ []) 4
     ∷ IsStep 1 2 (11 ∷ 10 ∷ []) 0 10 true (11 ∷ 10 ∷ []) 0
     ∷ IsStep 0 2 (11 ∷ 10 ∷ []) 0 10 true (10 ∷ 11 ∷ []) 0
-    ∷ AreNumbers 1 4 4 5 5 ∷ AreNumbers 0 2 2 1 1 ∷ AreNumbers 2 2 2 1 1
-    ∷ IsListing 1 "total 4\nset 0 4\nfact 0 5\nfact 1 5\n"
-    ∷ IsListing 0 "total 2\nset 0 2\nfact 0 1\nfact 1 1\n"
-    ∷ IsListing 2 "total 2\nset 0 2\nfact 0 1\nfact 1 1\n"
+    ∷ AreNumbers 1 0 4 4 5 5 ∷ AreNumbers 0 0 2 2 1 1 ∷ AreNumbers 2 0 2 2 1 1 ∷ AreNumbers 1 1 8 8 6 6
+    ∷ IsListing 1 0 "total 4\nset 0 4\nfact 0 5\nfact 1 5\n"
+    ∷ IsListing 0 0 "total 2\nset 0 2\nfact 0 1\nfact 1 1\n"
+    ∷ IsListing 2 0 "total 2\nset 0 2\nfact 0 1\nfact 1 1\n"
     ∷ []
 
 -- The tree, worked by hand: 1 + log2 k is the last limit with E; a miss takes the line that the bits lead to, though another is empty, and a hit turns its path too; with two ways it is LRU.
@@ -105,5 +105,5 @@ treeNumbers =
     ∷ IsStep 3 4 (20 ∷ none ∷ 12 ∷ 13 ∷ []) 3 21 false (20 ∷ none ∷ 21 ∷ 13 ∷ []) 6
     ∷ IsStep 3 4 (20 ∷ none ∷ 21 ∷ 13 ∷ []) 6 13 true (20 ∷ none ∷ 21 ∷ 13 ∷ []) 2
     ∷ IsStep 3 8 (10 ∷ 11 ∷ 12 ∷ 13 ∷ 14 ∷ 15 ∷ 16 ∷ 17 ∷ []) 37 20 false (10 ∷ 11 ∷ 12 ∷ 13 ∷ 14 ∷ 15 ∷ 20 ∷ 17 ∷ []) 96
-    ∷ AreNumbers 3 2 2 1 1
+    ∷ AreNumbers 3 0 2 2 1 1
     ∷ []

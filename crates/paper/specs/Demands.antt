@@ -9,7 +9,7 @@ use Rattle.paper.specs.Machines.{none}
 use Rattle.paper.specs.Traces.{Content}
 use Rattle.paper.specs.Cases.{Fact, Case, inside, size, scopeOf}
 use Rattle.paper.specs.Walks.{Edge, Walk, KeepsLimits}
-use Rattle.paper.specs.Runs.{LegalContent, Fetch, run, misses, ofFact, ofSet}
+use Rattle.paper.specs.Runs.{LegalContent, Event, walkOf, interruptions, Fetch, run, misses, ofFact, ofSet}
 use Rattle.paper.specs.Facts.{badHead, unfetched}
 use Rattle.paper.specs.Bounds.{listLength, setsFrom, factsFrom}
 use Rattle.paper.specs.Records.{rowSize}
@@ -20,14 +20,25 @@ use Rattle.paper.specs.Verdicts.{evidenceRules, wholeFileRules, verdict}
 use Rattle.paper.specs.OneFact.{fileWith}
 
 -- "on every walk from node 0 that keeps the loop limits and for every legal cache content at the start, the misses of each fact's accesses, of each set
--- and in all never exceed the printed bounds": the numbers are those of the lent list.
-pub record BoundsHold (e : Case) (numbers : List ℕ) (w : List ℕ) (c : Content) : Type 0 where
-  pub total : misses (λ a. true) (run e c w) ≤ getD numbers 0 0
-  pub set : (q : ℕ) → q < e .sets → misses (ofSet e q) (run e c w) ≤ getD numbers (setsFrom + q) 0
-  pub fact : (i : ℕ) → i < e .facts → misses (ofFact e (e .fact i)) (run e c w) ≤ getD numbers (factsFrom + i) 0
+-- and in all never exceed the printed bounds": the numbers are those of the lent list, and the fetches those of one run.
+pub record BoundsHold (e : Case) (numbers : List ℕ) (fetches : List Fetch) : Type 0 where
+  pub total : misses (λ a. true) fetches ≤ getD numbers 0 0
+  pub set : (q : ℕ) → q < e .sets → misses (ofSet e q) fetches ≤ getD numbers (setsFrom + q) 0
+  pub fact : (i : ℕ) → i < e .facts → misses (ofFact e (e .fact i)) fetches ≤ getD numbers (factsFrom + i) 0
 
-abbrev pub Holds : Case → List ℕ → Type 0
-Holds e numbers = (w : List ℕ) → Walk e w → KeepsLimits e w → (c : Content) → LegalContent e c → BoundsHold e numbers w c
+-- "Demand 3 is to hold for every walk, every placing of at most p interruptions, and any legal content after each": c is the content at the start, `left i` what interruption i leaves.
+-- An interruption may come between any two visits, before the first and after the last.
+abbrev pub Holds : Case → ℕ → List ℕ → Type 0
+Holds e p numbers =
+    (r : List Event)
+    → Walk e (walkOf r)
+    → KeepsLimits e (walkOf r)
+    → interruptions r ≤ p
+    → (c : Content)
+    → LegalContent e c
+    → (left : ℕ → Content)
+    → ((i : ℕ) → i < interruptions r → LegalContent e (left i))
+    → BoundsHold e numbers (run e c left r)
 
 -- A list of bytes, as every file is.
 abbrev pub Bytes : List ℕ → Type 0

@@ -22,6 +22,7 @@ pub mod Verdicts
 pub mod OneFact
 pub mod Listings
 pub mod Demands
+pub mod Uninterrupted
 pub mod Writing
 pub mod Finding
 pub mod Salvaging

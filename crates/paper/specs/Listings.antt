@@ -57,13 +57,14 @@ refusalLine r = bytes "refused " ++ (decimal (r .number) ++ lineOfTwo (bytes " "
 unfoldable pub boundLines : ℕ → (ℕ → ℕ) → ℕ → (ℕ → ℕ) → ℕ → List ℕ
 boundLines total set sets fact facts = line (bytes "total ") total ++ (linesTo (bytes "set ") set sets ++ linesTo (bytes "fact ") fact facts)
 
-abbrev pub accepted : Case → List ℕ
-accepted e = boundLines (totalBound e) (setBound e) (e .sets) (λ i. factBound e (e .fact i)) (e .facts)
+-- the bounds for at most p interruptions
+abbrev pub accepted : Case → ℕ → List ℕ
+accepted e p = boundLines (totalBound e p) (setBound e p) (e .sets) (λ i. factBound e p (e .fact i)) (e .facts)
 
-abbrev pub printed : List ℕ → Verdict → List ℕ
-printed file Accepted = accepted (readCase file)
-printed file (Refused r) = refusalLine r
+abbrev pub printed : List ℕ → ℕ → Verdict → List ℕ
+printed file p Accepted = accepted (readCase file) p
+printed file p (Refused r) = refusalLine r
 
 -- "the program reads at most 65,536 bytes and prints `refused 28 0` for longer input", since the second place `refused 28 0 0`
-unfoldable pub listingOf : List ℕ → List ℕ
-listingOf input = cond (ltb longestInput (length input)) (refusalLine (refuse 28 0)) (printed input (verdict input listLength))
+unfoldable pub listingOf : List ℕ → ℕ → List ℕ
+listingOf input p = cond (ltb longestInput (length input)) (refusalLine (refuse 28 0)) (printed input p (verdict input listLength))

@@ -1,5 +1,5 @@
--- A walk run over the contents of all sets: each visit fetches its node's block, and each fetch hits or misses.
-use Prim.Native.Nat.{ℕ, _+_, _%_, _<_}
+-- A walk run over the contents of all sets: each visit fetches its node's block, and each fetch hits or misses. A handler may change the contents in between.
+use Prim.Native.Nat.{ℕ, suc, _+_, _%_, _<_}
 use mathlib.Core.Path.{_≡_}
 use mathlib.Core.Bool.{Bool, true, false, cond, not, _&&_}
 use mathlib.Core.List.{List, [], _∷_, _++_}
@@ -20,6 +20,23 @@ pub record LegalSet (policy k : ℕ) (s : SetState) : Type 0 where
 abbrev pub LegalContent : Case → Content → Type 0
 LegalContent e c = (q : ℕ) → q < e .sets → LegalSet (e .policy) (e .ways) (c q)
 
+-- What comes in turn: the visit of a node, or an interruption, where "a handler may run".
+pub data Event : Type 0 where
+  visit : ℕ → Event
+  interruption : Event
+
+-- The walk: the nodes visited.
+abbrev pub walkOf : List Event → List ℕ
+walkOf [] = []
+walkOf (visit v ∷ r) = v ∷ walkOf r
+walkOf (interruption ∷ r) = walkOf r
+
+-- How often it is interrupted.
+abbrev pub interruptions : List Event → ℕ
+interruptions [] = 0
+interruptions (visit v ∷ r) = interruptions r
+interruptions (interruption ∷ r) = suc (interruptions r)
+
 pub record Fetch : Type 0 where
   pub node : ℕ
   pub block : ℕ
@@ -35,9 +52,11 @@ module _ (e : Case) where
       cond (eqb (e .block v) none) []
       (record { node = v; block = e .block v; miss = missAt (e .policy) (e .ways) (e .sets) c (e .block v) } ∷ [])
 
-  unfoldable pub run : Content → List ℕ → List Fetch
-  run c [] = []
-  run c (v ∷ w) = fetched c v ++ run (visited c v) w
+  -- From the content c; interruption i leaves the content `left i`. "Only our own misses are counted": what a handler fetches is not among the fetches.
+  unfoldable pub run : Content → (ℕ → Content) → List Event → List Fetch
+  run c left [] = []
+  run c left (visit v ∷ r) = fetched c v ++ run (visited c v) left r
+  run c left (interruption ∷ r) = run (left 0) (λ i. left (suc i)) r
 
   -- "the misses of each fact's accesses, of each set and in all"
   unfoldable pub ofFact : Fact → Fetch → Bool

@@ -155,10 +155,10 @@ withoutFact e r =
       fact = λ i. e .fact (skip r i);
     }
 
--- "never lowers a set bound or the total"
+-- "never lowers a set bound or the total", for however many interruptions
 pub record RaisesBounds (e d : Case) : Type 0 where
-  pub set : (q : ℕ) → setBound e q ≤ setBound d q
-  pub total : totalBound e ≤ totalBound d
+  pub set : (p q : ℕ) → setBound e p q ≤ setBound d p q
+  pub total : (p : ℕ) → totalBound e p ≤ totalBound d p
 
 abbrev pub RemovalHolds : List ℕ → Type 0
 RemovalHolds f = fileVerdict f ≡ Accepted → (r : ℕ) → r < readCase f .facts → RaisesBounds (readCase f) (withoutFact (readCase f) r)

@@ -103,7 +103,7 @@ fileVerdict f = wholeFileRules f (factRules f (trailerOf f) Accepted)
 unfoldable pub verdict : List ℕ → ℕ → Verdict
 verdict f room = rule 20 0 (ltb room listLength) (fileVerdict f)
 
--- "The check writes 321 64-bit numbers to a lent list: …, later ones untouched"; a refusal "changes no lent memory"
-abbrev pub lentAfter : List ℕ → List ℕ → Verdict → List ℕ
-lentAfter f lent Accepted = numbers (readCase f) ++ drop listLength lent
-lentAfter f lent (Refused r) = lent
+-- "The check writes 321 64-bit numbers to a lent list: …, later ones untouched"; a refusal "changes no lent memory". "The caller hands the greatest number p of such interruptions."
+abbrev pub lentAfter : List ℕ → ℕ → List ℕ → Verdict → List ℕ
+lentAfter f p lent Accepted = numbers (readCase f) p ++ drop listLength lent
+lentAfter f p lent (Refused r) = lent

@@ -81,7 +81,7 @@ pub fn trace(request: &[u8; places::ARGUMENTS_ROOM], bytes: &mut [u8], blocks: &
 
 fn checked(request: &[u8; places::ARGUMENTS_ROOM], bytes: &mut [u8], numbers: &mut [u64]) -> Frame
     requires { ⌜ u32At (now request) Places.checkNumbers ≤ length (now numbers) ⌝ }
-    requires { ⌜ length (now bytes) ≡ Places.lentAt + (u32At (now request) 0 + 8 * u32At (now request) Places.checkNumbers) ⌝ }
+    requires { ⌜ length (now bytes) ≡ Places.lentAt + (u32At (now request) Places.checkFile + 8 * u32At (now request) Places.checkNumbers) ⌝ }
 {
     if !read(&mut bytes[places::LENT_AT..]) {
         return Frame::Stopped(2);
@@ -90,12 +90,12 @@ fn checked(request: &[u8; places::ARGUMENTS_ROOM], bytes: &mut [u8], numbers: &m
     written(&bytes[at..])
 }
 
-// The arguments: the number of bytes, the number of numbers.
+// The arguments end with the number of bytes and the number of numbers.
 pub fn check(request: &[u8; places::ARGUMENTS_ROOM], bytes: &mut [u8], numbers: &mut [u64]) -> Frame
     requires { ⌜ Room.bytes ≤ length (now bytes) ⌝ }
     requires { ⌜ Room.numbers ≤ length (now numbers) ⌝ }
 {
-    let n = layout::u32_at(request, 0) as usize;
+    let n = layout::u32_at(request, places::CHECK_FILE) as usize;
     let m = layout::u32_at(request, places::CHECK_NUMBERS) as usize;
     if n > FILE {
         return Frame::Stopped(3);

@@ -19,8 +19,8 @@ use Rattle.ruling.specs.Ruled.{Ruled}
 
 -- the graph's verdict is v
 module _ (f : List ℕ) (trailer : Trailer) (v : Verdict) (a : v ≡ graphRules (caseOf f trailer) Accepted) where
-  pub graph-refused : (lent : List ℕ) (r : Refusal) → v ≡ Refused r → Ruled f trailer lent (Refused r) lent
-  graph-refused lent r e = record { answer = sym (refused-on (graphRules (caseOf f trailer)) (hands-graph (caseOf f trailer)) _ v a r e); numbers = refl }
+  pub graph-refused : (p : ℕ) (lent : List ℕ) (r : Refusal) → v ≡ Refused r → Ruled f trailer p lent (Refused r) lent
+  graph-refused p lent r e = record { answer = sym (refused-on (graphRules (caseOf f trailer)) (hands-graph (caseOf f trailer)) _ v a r e); numbers = refl }
 
   module _ (e : v ≡ Accepted) where
     pub graph-shaped : Shaped (caseOf f trailer)
@@ -31,8 +31,8 @@ module _ (f : List ℕ) (trailer : Trailer) (v : Verdict) (a : v ≡ graphRules 
 
     -- the facts' verdict is w
     module _ (w : Verdict) (b : w ≡ factRules f trailer Accepted) where
-      pub facts-refused : (lent : List ℕ) (r : Refusal) → w ≡ Refused r → Ruled f trailer lent (Refused r) lent
-      facts-refused lent r g = record { answer = sym (onward _ ∙ sym b ∙ g); numbers = refl }
+      pub facts-refused : (p : ℕ) (lent : List ℕ) (r : Refusal) → w ≡ Refused r → Ruled f trailer p lent (Refused r) lent
+      facts-refused p lent r g = record { answer = sym (onward _ ∙ sym b ∙ g); numbers = refl }
 
       module _ (g : w ≡ Accepted) where
         kept : (i : ℕ) → i < trailer .facts → KeptFact f trailer (factPlace f trailer i)
@@ -51,5 +51,5 @@ module _ (f : List ℕ) (trailer : Trailer) (v : Verdict) (a : v ≡ graphRules 
         pub facts-placed : Placed f trailer
         facts-placed = record { ends = λ i h. kept i h .room }
 
-        pub judged : (lent after : List ℕ) → after ≡ numbers (caseOf f trailer) ++ drop 321 lent → Ruled f trailer lent Accepted after
-        judged lent after n = record { answer = sym (onward _ ∙ sym b ∙ g); numbers = n }
+        pub judged : (p : ℕ) (lent after : List ℕ) → after ≡ numbers (caseOf f trailer) p ++ drop 321 lent → Ruled f trailer p lent Accepted after
+        judged p lent after n = record { answer = sym (onward _ ∙ sym b ∙ g); numbers = n }

@@ -11,10 +11,10 @@ use Rattle.paper.specs.Files.{caseOf}
 use Rattle.paper.specs.Verdicts.{graphRules, factRules}
 
 -- the lent list afterwards
-abbrev pub written : List ℕ → Trailer → List ℕ → Verdict → List ℕ
-written f trailer lent Accepted = numbers (caseOf f trailer) ++ drop listLength lent
-written f trailer lent (Refused r) = lent
+abbrev pub written : List ℕ → Trailer → ℕ → List ℕ → Verdict → List ℕ
+written f trailer p lent Accepted = numbers (caseOf f trailer) p ++ drop listLength lent
+written f trailer p lent (Refused r) = lent
 
-pub record Ruled (f : List ℕ) (trailer : Trailer) (lent : List ℕ) (r : Verdict) (after : List ℕ) : Type 0 where
+pub record Ruled (f : List ℕ) (trailer : Trailer) (p : ℕ) (lent : List ℕ) (r : Verdict) (after : List ℕ) : Type 0 where
   pub answer : r ≡ graphRules (caseOf f trailer) (factRules f trailer Accepted)
-  pub numbers : after ≡ written f trailer lent r
+  pub numbers : after ≡ written f trailer p lent r

@@ -8,11 +8,11 @@ use paper::MOST_NODES;
 use paper::Trailer;
 use paper::Verdict;
 
-// Rules 6 to 19 and the 321 numbers, for a file that passes rules 1 to 5.
-pub fn rule_on(file: &[u8], trailer: Trailer, numbers: &mut [u64]) -> Verdict
+// Rules 6 to 19 and the 321 numbers, for a file that passes rules 1 to 5 and a walk that is interrupted so often at most.
+pub fn rule_on(file: &[u8], trailer: Trailer, interruptions: u16, numbers: &mut [u64]) -> Verdict
     requires { ⌜ Laid (now file) trailer ⌝ }
     requires { ⌜ listLength ≤ length (now numbers) ⌝ }
-    ensures { λ r. ⌜ Ruled (now (file .entry)) trailer (now (numbers .entry)) r (now (numbers .exit)) ⌝ }
+    ensures { λ r. ⌜ Ruled (now (file .entry)) trailer interruptions (now (numbers .entry)) r (now (numbers .exit)) ⌝ }
 {
     let mut counts: [u32; MOST_NODES] = [0; MOST_NODES];
     let graph = graph::graph_rules(file, trailer, &mut counts);
@@ -23,6 +23,6 @@ pub fn rule_on(file: &[u8], trailer: Trailer, numbers: &mut [u64]) -> Verdict
     if let Verdict::Refused(r) = facts {
         return Verdict::Refused(r);
     }
-    charge::charge(file, trailer, &counts, numbers);
+    charge::charge(file, trailer, &counts, interruptions, numbers);
     Verdict::Accepted
 }

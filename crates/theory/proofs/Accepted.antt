@@ -10,6 +10,6 @@ use Rattle.paper.specs.Verdicts.{verdict}
 use Rattle.paper.proofs.VerdictLaws.{file-sound, enough}
 use Rattle.theory.proofs.Demand.{bounds-hold}
 
-pub accepted-holds : (f : List ℕ) (room : ℕ) → verdict f room ≡ Accepted → (rest : List ℕ) → Holds (readCase f) (numbers (readCase f) ++ rest)
+pub accepted-holds : (f : List ℕ) (room : ℕ) → verdict f room ≡ Accepted → (p : ℕ) (rest : List ℕ) → Holds (readCase f) p (numbers (readCase f) p ++ rest)
 unfolding caseOf
-accepted-holds f room h rest = let s = file-sound f (enough f room h) in bounds-hold (readCase f) (s .1) (s .0 .facts-high) rest
+accepted-holds f room h p rest = let s = file-sound f (enough f room h) in bounds-hold (readCase f) (s .1) (s .0 .facts-high) p rest

@@ -10,6 +10,7 @@ use borrow.Author.Tests.{lt-ltb, le-ltb, lt-leb, le-leb}
 use Rattle.paper.specs.Machines.{none, levels, treeLimit}
 use Rattle.paper.specs.Cases.{Fact, Case}
 use Rattle.paper.specs.Walks.{Walk, KeepsLimits}
+use Rattle.paper.specs.Runs.{Event, walkOf, interruptions}
 use Rattle.paper.specs.Bounds.{covers, counts, ceil, g, boundOf, entered, factBound}
 use Rattle.paper.proofs.Meaning.{SoundFact, Sound}
 use Rattle.theory.proofs.Costs.{paid}
@@ -21,7 +22,7 @@ use Rattle.theory.proofs.Nmru.{nmru-law}
 use Rattle.theory.proofs.Pair.{nmru-pair-law}
 use Rattle.theory.proofs.Tree.{tree-law}
 use Rattle.theory.proofs.Policies.{Policy, Lru, Fifo, Nmru, Tree, number, ideal, Fits, fair}
-use Rattle.theory.proofs.Moves.{Held, Fine, misses, misses-le}
+use Rattle.theory.proofs.Moves.{Contents, costs, misses-le}
 use Rattle.theory.proofs.FactRuns.{law-bound}
 
 -- FIFO's arithmetic: in a stay every g-th access may miss
@@ -81,18 +82,20 @@ module _ (k b l E N : ℕ) (real : b ≢ none) (low : 1 ≤ l) (high : l ≤ k) 
         | no i ↦ rw (lt-leb l (treeLimit k) (omega arith)) most
       ]
 
-module _ (e : Case) (s : Sound e) (w : List ℕ) (walk : Walk e w) (kept : KeepsLimits e w) (t : Fact) (h : SoundFact e t) where
+module _ (e : Case) (s : Sound e) (p : ℕ) (r : List Event) (walk : Walk e (walkOf r)) (kept : KeepsLimits e (walkOf r)) (few : interruptions r ≤ p)
+    (t : Fact) (h : SoundFact e t) where
   pub fact-bounded :
-      (P : Policy) → e .policy ≡ number P → (o : Fits P (e .ways)) (c : Held e (ideal P (e .ways))) → Fine e (ideal P (e .ways)) c
-      → paid (covers e t) (misses e (ideal P (e .ways)) w c) ≤ factBound e t
+      (P : Policy) → e .policy ≡ number P → (o : Fits P (e .ways)) (c : Contents e (ideal P (e .ways)) r)
+      → paid (covers e t) (costs e (ideal P (e .ways)) r c) ≤ factBound e p t
   unfolding factBound
-  fact-bounded P is o c fine =
+  fact-bounded P is o c =
       let N = counts e (covers e t) in
       omega (
         arith,
-        ap (λ (p : ℕ). boundOf p (e .ways) (t .limit) (entered e t) N) is,
-        bounded (e .ways) (t .block) (t .limit) (entered e t) N (h .head .block) (h .head .low) (h .head .high) P o
-            (paid (covers e t) (misses e (ideal P (e .ways)) w c))
-            (law-bound e s w walk kept (ideal P (e .ways)) (fair P (e .ways) o) c fine t h)
-            (le-trans (misses-le e (ideal P (e .ways)) (fair P (e .ways) o) (covers e t) w c) (passing-le-counts e (s .graph) (s .nodes) (covers e t) w walk kept)),
+        ap (λ (n : ℕ). boundOf n (e .ways) (t .limit) (entered e p t) N) is,
+        bounded (e .ways) (t .block) (t .limit) (entered e p t) N (h .head .block) (h .head .low) (h .head .high) P o
+            (paid (covers e t) (costs e (ideal P (e .ways)) r c))
+            (law-bound e s p r walk kept few (ideal P (e .ways)) (fair P (e .ways) o) c t h)
+            (le-trans (misses-le e (ideal P (e .ways)) (fair P (e .ways) o) (covers e t) r (c .start) (c .left))
+            (passing-le-counts e (s .graph) (s .nodes) (covers e t) (walkOf r) walk kept)),
       )

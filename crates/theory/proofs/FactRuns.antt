@@ -1,5 +1,6 @@
--- A fact in the run of a walk, in any machine that has a law: c times its misses are at most a times the lesser of its entries and its fetches, and d times its fetches.
-use Prim.Native.Nat.{ℕ, zero, suc, _+_, _-_, _*_, _%_, _≤_, min}
+-- A fact in the run of a walk, in any machine that has a law: c times its misses are at most a times the lesser of E + p and N, and d times N,
+-- where E are its entries, N its fetches and p the interruptions.
+use Prim.Native.Nat.{ℕ, zero, suc, _+_, _-_, _*_, _%_, _≤_, _<_, min}
 use native.Mathlib.Omega.{arith}
 use native.Mathlib.Decide.{decLe}
 use native.Mathlib.Nat.{mod-lt, le-trans, mul-le-mul-left, mul-le-mul-right}
@@ -14,6 +15,7 @@ use Rattle.paper.specs.Machines as Machines
 use Rattle.paper.specs.Cases.{Fact, Case, unlimited, rangeOf, scopeOf}
 use Rattle.paper.specs.Graphs.{entriesOf, entries}
 use Rattle.paper.specs.Walks.{Step, Walk, KeepsLimits}
+use Rattle.paper.specs.Runs.{Event, visit, interruption, walkOf, interruptions}
 use Rattle.paper.specs.Bounds.{covers, counts, entered}
 use Rattle.paper.proofs.Says.{Says, holds, fails, says-eq, says-not, says-and}
 use Rattle.paper.proofs.GraphLaws.{inside-says}
@@ -26,26 +28,33 @@ use Rattle.theory.proofs.Costs.{paid}
 use Rattle.theory.proofs.Passing.{passing-le-counts}
 use Rattle.theory.proofs.Law.{Machine, Fair, Law}
 use Rattle.paper.proofs.TestLaws.{covers-says}
-use Rattle.theory.proofs.Moves.{Held, Fine, move, missAt, misses, misses-le, move-fine, miss-at}
+use Rattle.theory.proofs.Moves.{Held, Fine, Contents, move, missAt, misses, costs, misses-le, move-fine, miss-at}
 use Rattle.theory.proofs.Since.{since, Taken, missed, fact-pays}
 
 module _ (e : Case) (M : Machine) (t : Fact) where
   -- the states of the fact's set along the walk
-  states : List ℕ → Held e M → ℕ → M .State
-  states w c zero = c (t .block % e .sets)
-  states [] c (suc i) = c (t .block % e .sets)
-  states (v ∷ w) c (suc i) = states w (move e M v c) i
+  states : List Event → Held e M → (ℕ → Held e M) → ℕ → M .State
+  states r c left zero = c (t .block % e .sets)
+  states [] c left (suc i) = c (t .block % e .sets)
+  states (visit v ∷ r) c left (suc i) = states r (move e M v c) left i
+  states (interruption ∷ r) c left (suc i) = states r (left 0) (λ j. left (suc j)) i
 
-  taken : 1 ≤ e .sets → Fair M → (known : Bool) (w : List ℕ) (c : Held e M) → Fine e M c → Taken e M t known w (states w c)
+  taken :
+      1 ≤ e .sets → Fair M → (known : Bool) (r : List Event) (c : Held e M) (left : ℕ → Held e M) → Fine e M c → ((i : ℕ) → i < interruptions r → Fine e M (left i))
+      → Taken e M t known r (states r c left)
   unfolding states
-  taken sets fair known [] c h = tt
-  taken sets fair known (v ∷ w) c h =
-      (h (t .block % e .sets) (mod-lt (t .block) sets), λ k. refl, taken sets fair (since e M t known v) w (move e M v c) (move-fine e M fair v c h))
+  taken sets fair known [] c left h g = tt
+  taken sets fair known (visit v ∷ r) c left h g =
+      (h (t .block % e .sets) (mod-lt (t .block) sets), λ k. refl, taken sets fair (since e M t known v) r (move e M v c) left (move-fine e M fair v c h) g)
+  taken sets fair known (interruption ∷ r) c left h g = taken sets fair false r (left 0) (λ i. left (suc i)) (g 0 (omega arith)) (λ i l. g (suc i) (omega arith))
 
-  same-missed : t .block ≢ Machines.none → (w : List ℕ) (c : Held e M) → missed e M t w (states w c) ≡ paid (covers e t) (misses e M w c)
+  same-missed :
+      t .block ≢ Machines.none → (r : List Event) (c : Held e M) (left : ℕ → Held e M)
+      → missed e M t r (states r c left) ≡ paid (covers e t) (misses e M r c left)
   unfolding states
-  same-missed real [] c = refl
-  same-missed real (v ∷ w) c = omega (arith, one (covers-says e t v), same-missed real w (move e M v c))
+  same-missed real [] c left = refl
+  same-missed real (interruption ∷ r) c left = same-missed real r (left 0) (λ i. left (suc i))
+  same-missed real (visit v ∷ r) c left = omega (arith, one (covers-says e t v), same-missed real r (move e M v c) left)
     where
       one : {g : Bool} → Says (In (scopeOf e t) v × (e .block v ≡ t .block)) g → cond g (M .miss (t .block) (c (t .block % e .sets))) 0 ≡ cond g (missAt e M v c) 0
       one (holds h) = sym (miss-at e M v c (rw (h .1) real) ∙ ap (λ (b : ℕ). M .miss b (c (b % e .sets))) (h .1))
@@ -88,22 +97,25 @@ module _ (e : Case) (s : Sound e) (w : List ℕ) (walk : Walk e w) (kept : Keeps
       go (holds p) = whole-once
       go (fails n) = stays-le-entries e (s .graph) w walk kept (t .scope) (h .head .scope n)
 
-  module _ (M : Machine) (t : Fact) (h : SoundFact e t) (r a d : ℕ) (L : Law M (t .block) (t .limit - 1) r a d) where
+module _ (e : Case) (s : Sound e) (p : ℕ) (r : List Event) (walk : Walk e (walkOf r)) (kept : KeepsLimits e (walkOf r)) (few : interruptions r ≤ p) where
+  module _ (M : Machine) (t : Fact) (h : SoundFact e t) (c a d : ℕ) (L : Law M (t .block) (t .limit - 1) c a d) where
     -- whatever legal states the set is put into while nothing is known since b
-    taken-bound : (σ : ℕ → M .State) → Taken e M t false w σ → r * missed e M t w σ ≤ a * entries e t + d * counts e (covers e t)
+    taken-bound : (σ : ℕ → M .State) → Taken e M t false r σ → c * missed e M t r σ ≤ a * (entries e t + p) + d * counts e (covers e t)
     taken-bound σ z =
+        let most : stays (scopeOf e t) (walkOf r) + interruptions r ≤ entries e t + p = omega (arith, stays-scope e s (walkOf r) walk kept t h) in
         omega (
           arith,
-          fact-pays e M t (h .head .block) (h .evidence) r a d L w σ z walk,
-          mul-le-mul-left a (stays-scope t h),
-          mul-le-mul-left d (passing-le-counts e (s .graph) (s .nodes) (covers e t) w walk kept),
+          fact-pays e M t (h .head .block) (h .evidence) c a d L r σ z walk,
+          mul-le-mul-left a most,
+          mul-le-mul-left d (passing-le-counts e (s .graph) (s .nodes) (covers e t) (walkOf r) walk kept),
         )
 
   pub law-bound :
-      (M : Machine) → Fair M → (c : Held e M) → Fine e M c → (t : Fact) → SoundFact e t → (r a d : ℕ) → Law M (t .block) (t .limit - 1) r a d
-      → r * paid (covers e t) (misses e M w c) ≤ a * entered e t + d * counts e (covers e t)
+      (M : Machine) → Fair M → (g : Contents e M r) (t : Fact) → SoundFact e t → (c a d : ℕ) → Law M (t .block) (t .limit - 1) c a d
+      → c * paid (covers e t) (costs e M r g) ≤ a * entered e p t + d * counts e (covers e t)
   unfolding entered
-  law-bound M fair c fine t h r a d L =
-      lesser r a d _ (entries e t) _ (L .enough)
-      (le-trans (misses-le e M fair (covers e t) w c) (passing-le-counts e (s .graph) (s .nodes) (covers e t) w walk kept))
-      (rw (← same-missed e M t (h .head .block) w c) (taken-bound M t h r a d L (states e M t w c) (taken e M t (some-set e s) fair false w c fine)))
+  law-bound M fair g t h c a d L =
+      lesser c a d _ (entries e t + p) _ (L .enough)
+      (le-trans (misses-le e M fair (covers e t) r (g .start) (g .left)) (passing-le-counts e (s .graph) (s .nodes) (covers e t) (walkOf r) walk kept))
+      (rw (← same-missed e M t (h .head .block) r (g .start) (g .left))
+      (taken-bound M t h c a d L (states e M t r (g .start) (g .left)) (taken e M t (some-set e s) fair false r (g .start) (g .left) (g .fine) (g .fines))))

@@ -118,33 +118,33 @@ module _ (e : Case) (s : Sound e) (ordered : Ordered e) (r : ℕ) (low : r < e .
               (e .nodes) (λ v l. at-node on refl v),
         )
 
-  -- E is the lesser of E and N, and no bound is above N
-  A-grows : (q : ℕ) → A e q ≤ A d q
+  -- the lesser of E + p and N stands for E, and no bound is above N
+  A-grows : (p q : ℕ) → A e p q ≤ A d p q
   unfolding withoutFact A factBound entered counts covers entries entriesOf outer count innermost headerVisits
-  A-grows q = sum-grows (anyFact e) q (factBound e) (bound-low (e .policy) (e .ways) (e .fact r .limit) (entered e (e .fact r)) (counts e (covers e (e .fact r))) (omega arith))
+  A-grows p q = sum-grows (anyFact e) q (factBound e p) (bound-low (e .policy) (e .ways) (e .fact r .limit) (entered e p (e .fact r)) (counts e (covers e (e .fact r))) (omega arith))
 
-  M-grows : (l q : ℕ) → M e l q ≤ M d l q
+  M-grows : (p l q : ℕ) → M e p l q ≤ M d p l q
   unfolding withoutFact M entered counts covers entries entriesOf outer count innermost headerVisits
-  M-grows l q = sum-grows (upTo e l) q (entered e) (omega arith)
+  M-grows p l q = sum-grows (upTo e l) q (entered e p) (omega arith)
 
-  floor-grows : (q j : ℕ) → j < e .ways → floorAt e q j ≤ floorAt d q j
+  floor-grows : (p q j : ℕ) → j < e .ways → floorAt e p q j ≤ floorAt d p q j
   unfolding withoutFact floorAt floorOf
-  floor-grows q j l =
+  floor-grows p q j l =
       let h : 0 < suc (e .ways) - suc j = omega arith in
       le-div-iff-mul-le h .1
-      (le-trans (div-mul-le-self (e .ways * M e (suc j) q) (suc (e .ways) - suc j)) (mul-le-mul-left (e .ways) (M-grows (suc j) q)))
+      (le-trans (div-mul-le-self (e .ways * M e p (suc j) q) (suc (e .ways) - suc j)) (mul-le-mul-left (e .ways) (M-grows p (suc j) q)))
 
-  set-grows : (q : ℕ) → setBound e q ≤ setBound d q
+  set-grows : (p q : ℕ) → setBound e p q ≤ setBound d p q
   unfolding withoutFact setBound
-  set-grows q = go (partsOf (e .policy) .floors)
+  set-grows p q = go (partsOf (e .policy) .floors)
     where
-      go : (b : Bool) → cond b (leastFloor e q) (A e q) ≤ cond b (lowestTo (floorAt d q) (A d q) (e .ways)) (A d q)
-      go true = lowest-mono (floorAt e q) (floorAt d q) (A e q) (A d q) (e .ways) (A-grows q) (floor-grows q)
-      go false = A-grows q
+      go : (b : Bool) → cond b (leastFloor e p q) (A e p q) ≤ cond b (lowestTo (floorAt d p q) (A d p q) (e .ways)) (A d p q)
+      go true = lowest-mono (floorAt e p q) (floorAt d p q) (A e p q) (A d p q) (e .ways) (A-grows p q) (floor-grows p q)
+      go false = A-grows p q
 
-  total-grows : totalBound e ≤ totalBound d
+  total-grows : (p : ℕ) → totalBound e p ≤ totalBound d p
   unfolding withoutFact totalBound
-  total-grows = sum-le (setBound e) (setBound d) (e .sets) (λ q l. set-grows q)
+  total-grows p = sum-le (setBound e p) (setBound d p) (e .sets) (λ q l. set-grows p q)
 
 -- "Removing a fact from an accepted file never lowers a set bound or the total"
 pub removal-holds : (f : List ℕ) → RemovalHolds f

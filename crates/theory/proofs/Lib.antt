@@ -41,6 +41,7 @@ pub mod Printed
 pub mod Demand
 pub mod Accepted
 pub mod Unlimited
+pub mod Undisturbed
 pub mod Sorted
 pub mod Clear
 pub mod Decided

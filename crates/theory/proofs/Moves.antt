@@ -1,5 +1,5 @@
--- The run of a walk in any machine: what each visit does to each set, and what it costs.
-use Prim.Native.Nat.{ℕ, _%_, _≤_, _<_}
+-- The run of a walk in any machine, interrupted or not: what each visit does to each set, and what it costs.
+use Prim.Native.Nat.{ℕ, suc, _%_, _≤_, _<_}
 use native.Mathlib.Omega.{arith}
 use mathlib.Core.Path.{_≡_, refl}
 use mathlib.Core.Logic.{_≢_}
@@ -9,6 +9,7 @@ use borrow.Author.Tests.{ne-eqb}
 use lib.Dec.{eqb}
 use Rattle.paper.specs.Machines.{none}
 use Rattle.paper.specs.Cases.{Case}
+use Rattle.paper.specs.Runs.{Event, visit, interruption, walkOf, interruptions}
 use Rattle.paper.specs.Bounds.{lives}
 use Rattle.paper.proofs.Says.{says-is}
 use Rattle.theory.proofs.Law.{Machine, Fair}
@@ -40,9 +41,20 @@ module _ (e : Case) (M : Machine) where
   missAt v c = cond (eqb (e .block v) none) 0 (M .miss (e .block v) (c (e .block v % e .sets)))
 
   -- each visit costs its misses
-  abbrev pub misses : List ℕ → Held → List Visit
-  misses [] c = []
-  misses (v ∷ w) c = record { node = v; cost = missAt v c } ∷ misses w (move v c)
+  abbrev pub misses : List Event → Held → (ℕ → Held) → List Visit
+  misses [] c left = []
+  misses (visit v ∷ r) c left = record { node = v; cost = missAt v c } ∷ misses r (move v c) left
+  misses (interruption ∷ r) c left = misses r (left 0) (λ i. left (suc i))
+
+  -- What the run starts with and what each interruption leaves, all legal.
+  pub record Contents (r : List Event) : Type 0 where
+    pub start : Held
+    pub left : ℕ → Held
+    pub fine : Fine start
+    pub fines : (i : ℕ) → i < interruptions r → Fine (left i)
+
+  abbrev pub costs : (r : List Event) → Contents r → List Visit
+  costs r c = misses r (c .start) (c .left)
 
   pub moved-to : (q v : ℕ) (s : M .State) → e .block v ≢ none → e .block v % e .sets ≡ q → moved q v s ≡ M .step (e .block v) s
   unfolding moved
@@ -70,6 +82,7 @@ module _ (e : Case) (M : Machine) where
         go false = fair .once (e .block v) (c (e .block v % e .sets))
 
   -- as many misses as visits at most
-  pub misses-le : Fair M → (test : ℕ → Bool) (w : List ℕ) (c : Held) → paid test (misses w c) ≤ paid test (ones w)
-  misses-le fair test [] c = omega arith
-  misses-le fair test (v ∷ w) c = omega (arith, misses-le fair test w (move v c), cond-le (test v) (λ h. miss-once fair v c))
+  pub misses-le : Fair M → (test : ℕ → Bool) (r : List Event) (c : Held) (left : ℕ → Held) → paid test (misses r c left) ≤ paid test (ones (walkOf r))
+  misses-le fair test [] c left = omega arith
+  misses-le fair test (visit v ∷ r) c left = omega (arith, misses-le fair test r (move v c) left, cond-le (test v) (λ h. miss-once fair v c))
+  misses-le fair test (interruption ∷ r) c left = misses-le fair test r (left 0) (λ i. left (suc i))

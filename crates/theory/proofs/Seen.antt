@@ -1,5 +1,5 @@
 -- The paper's run of a walk, on eight lines and a byte of bits, misses where the run in the machine on k lines does.
-use Prim.Native.Nat.{ℕ, _+_, _%_, _<_}
+use Prim.Native.Nat.{ℕ, suc, _+_, _%_, _<_}
 use native.Mathlib.Omega.{arith}
 use native.Mathlib.Nat.{mod-lt}
 use mathlib.Core.Path.{_≡_, refl, _∙_, ap}
@@ -12,7 +12,7 @@ use Rattle.paper.specs.Lists.{bit}
 use Rattle.paper.specs.Machines.{none, step}
 use Rattle.paper.specs.Traces.{Content, after, missAt}
 use Rattle.paper.specs.Cases.{Case}
-use Rattle.paper.specs.Runs.{LegalSet, Fetch, visited, fetched, run, misses}
+use Rattle.paper.specs.Runs.{LegalSet, Event, visit, interruption, interruptions, Fetch, visited, fetched, run, misses}
 use Rattle.paper.specs.Bounds.{lives}
 use Rattle.paper.proofs.Says.{Says, holds, fails, says-eq}
 use Rattle.theory.proofs.Law.{Machine}
@@ -75,9 +75,12 @@ module _ (e : Case) (sets : 0 < e .sets) (N : Machine) (shown : View (board (e .
         go (holds p) = omega (arith, nothing (node v))
         go (fails n) = rw (agree v miss n, bits (node v) miss, same-miss v c d h) refl
 
-    pub run-seen : (w : List ℕ) (c : Content) (d : Held e N) → Seen c d → misses test (run e c w) ≡ paid node (Moves.misses e N w d)
+    pub run-seen :
+        (r : List Event) (c : Content) (left : ℕ → Content) (d : Held e N) (after : ℕ → Held e N) → Seen c d → ((i : ℕ) → i < interruptions r → Seen (left i) (after i))
+        → misses test (run e c left r) ≡ paid node (Moves.misses e N r d after)
     unfolding run misses
-    run-seen [] c d h = refl
-    run-seen (v ∷ w) c d h =
-        one v c d (run e (visited e c v) w) h
-        ∙ ap (λ (x : ℕ). cond (node v) (Moves.missAt e N v d) 0 + x) (run-seen w (visited e c v) (move e N v d) (seen-after v c d h))
+    run-seen [] c left d after h g = refl
+    run-seen (visit v ∷ r) c left d after h g =
+        one v c d (run e (visited e c v) left r) h
+        ∙ ap (λ (x : ℕ). cond (node v) (Moves.missAt e N v d) 0 + x) (run-seen r (visited e c v) left (move e N v d) after (seen-after v c d h) g)
+    run-seen (interruption ∷ r) c left d after h g = run-seen r (left 0) (λ i. left (suc i)) (after 0) (λ i. after (suc i)) (g 0 (omega arith)) (λ i l. g (suc i) (omega arith))

@@ -11,6 +11,7 @@ use Rattle.paper.specs.Lists.{lowestTo}
 use Rattle.paper.specs.Machines.{none}
 use Rattle.paper.specs.Cases.{Case}
 use Rattle.paper.specs.Walks.{Walk, KeepsLimits}
+use Rattle.paper.specs.Runs.{Event, walkOf, interruptions}
 use Rattle.paper.specs.Policies.{partsOf}
 use Rattle.paper.specs.Bounds.{lives, anyFact, factBound, A, floorAt, setBound, totalBound}
 use Rattle.paper.proofs.Meaning.{Sound}
@@ -20,7 +21,7 @@ use Rattle.theory.proofs.SumLaws.{sum-le}
 use Rattle.theory.proofs.Costs.{paid, paid-none, paid-split}
 use Rattle.theory.proofs.Policies.{Policy, Lru, Fifo, Nmru, Tree, number, ideal, Fits, fair}
 use Rattle.paper.proofs.TestLaws.{lives-says}
-use Rattle.theory.proofs.Moves.{inSet, Held, Fine, misses}
+use Rattle.theory.proofs.Moves.{inSet, Contents, costs}
 use Rattle.theory.proofs.FactBounds.{fact-bounded}
 use Rattle.theory.proofs.SetSums.{set-sum}
 use Rattle.theory.proofs.Floors.{by-floor}
@@ -30,47 +31,47 @@ unfolding lowestTo
 lowest-le f x a zero h g = h
 lowest-le f x a (suc n) h g = omega (arith, lowest-le f x a n h (λ j l. g j (omega arith)), g n (omega arith))
 
-module _ (e : Case) (s : Sound e) (w : List ℕ) (walk : Walk e w) (kept : KeepsLimits e w) where
-  by-A : (P : Policy) → e .policy ≡ number P → (o : Fits P (e .ways)) (c : Held e (ideal P (e .ways))) → Fine e (ideal P (e .ways)) c →
-      (q : ℕ) → paid (inSet e q) (misses e (ideal P (e .ways)) w c) ≤ A e q
+module _ (e : Case) (s : Sound e) (p : ℕ) (r : List Event) (walk : Walk e (walkOf r)) (kept : KeepsLimits e (walkOf r)) (few : interruptions r ≤ p) where
+  by-A : (P : Policy) → e .policy ≡ number P → (o : Fits P (e .ways)) (c : Contents e (ideal P (e .ways)) r) →
+      (q : ℕ) → paid (inSet e q) (costs e (ideal P (e .ways)) r c) ≤ A e p q
   unfolding A
-  by-A P is o c fine q =
-      set-sum e s w walk kept (ideal P (e .ways)) (fair P (e .ways) o) (anyFact e) (factBound e) q c
-      (λ i l z. fact-bounded e s w walk kept (e .fact i) (s .facts i l) P is o c fine)
+  by-A P is o c q =
+      set-sum e s r walk kept (ideal P (e .ways)) (fair P (e .ways) o) (anyFact e) (factBound e p) q c
+      (λ i l z. fact-bounded e s p r walk kept few (e .fact i) (s .facts i l) P is o c)
 
-  pub set-bounded : (P : Policy) → e .policy ≡ number P → (o : Fits P (e .ways)) (c : Held e (ideal P (e .ways))) → Fine e (ideal P (e .ways)) c →
-      (q : ℕ) → q < e .sets → paid (inSet e q) (misses e (ideal P (e .ways)) w c) ≤ setBound e q
+  pub set-bounded : (P : Policy) → e .policy ≡ number P → (o : Fits P (e .ways)) (c : Contents e (ideal P (e .ways)) r) →
+      (q : ℕ) → q < e .sets → paid (inSet e q) (costs e (ideal P (e .ways)) r c) ≤ setBound e p q
   unfolding setBound
-  set-bounded P is o c fine q l = go P is o c fine
+  set-bounded P is o c q l = go P is o c
     where
       bound : ℕ → ℕ
-      bound p = cond (partsOf p .floors) (lowestTo (floorAt e q) (A e q) (e .ways)) (A e q)
+      bound n = cond (partsOf n .floors) (lowestTo (floorAt e p q) (A e p q) (e .ways)) (A e p q)
 
-      go : (P : Policy) → e .policy ≡ number P → (o : Fits P (e .ways)) (c : Held e (ideal P (e .ways))) → Fine e (ideal P (e .ways)) c →
-          paid (inSet e q) (misses e (ideal P (e .ways)) w c) ≤ bound (e .policy)
-      go Lru is o c fine = omega (arith, by-A Lru is o c fine q, ap bound is)
-      go Fifo is o c fine =
+      go : (P : Policy) → e .policy ≡ number P → (o : Fits P (e .ways)) (c : Contents e (ideal P (e .ways)) r) →
+          paid (inSet e q) (costs e (ideal P (e .ways)) r c) ≤ bound (e .policy)
+      go Lru is o c = omega (arith, by-A Lru is o c q, ap bound is)
+      go Fifo is o c =
           omega (
             arith,
             ap bound is,
-            lowest-le (floorAt e q) _ _ (e .ways) (by-A Fifo is o c fine q) λ j i.
-                by-floor e j i q l s w walk kept c fine,
+            lowest-le (floorAt e p q) _ _ (e .ways) (by-A Fifo is o c q) λ j i.
+                by-floor e j i q l s p r walk kept few c,
           )
-      go Nmru is o c fine = omega (arith, by-A Nmru is o c fine q, ap bound is)
-      go Tree is o c fine = omega (arith, by-A Tree is o c fine q, ap bound is)
+      go Nmru is o c = omega (arith, by-A Nmru is o c q, ap bound is)
+      go Tree is o c = omega (arith, by-A Tree is o c q, ap bound is)
 
   -- every fetch is of one set
-  pub all-bounded : (P : Policy) → e .policy ≡ number P → (o : Fits P (e .ways)) (c : Held e (ideal P (e .ways))) → Fine e (ideal P (e .ways)) c →
-      paid (λ v. not (eqb (e .block v) none)) (misses e (ideal P (e .ways)) w c) ≤ totalBound e
+  pub all-bounded : (P : Policy) → e .policy ≡ number P → (o : Fits P (e .ways)) (c : Contents e (ideal P (e .ways)) r) →
+      paid (λ v. not (eqb (e .block v) none)) (costs e (ideal P (e .ways)) r c) ≤ totalBound e p
   unfolding totalBound
-  all-bounded P is o c fine =
-      let r = misses e (ideal P (e .ways)) w c in
+  all-bounded P is o c =
+      let n = costs e (ideal P (e .ways)) r c in
       omega (
         arith,
         paid-split (λ v. not (eqb (e .block v) none)) (λ v. false) (λ q. true) (λ q v. lives e q (e .block v)) (e .sets)
             (λ v h k.
             (e .block v % e .sets, mod-lt (e .block v) (some-set e s), refl, says-is (lives-says e (e .block v % e .sets) (e .block v)) (eqb-false _ _ (not-true _ h), refl)))
-            r,
-        paid-none r,
-        sum-le (λ q. paid (inSet e q) r) (setBound e) (e .sets) (λ q l. set-bounded P is o c fine q l),
+            n,
+        paid-none n,
+        sum-le (λ q. paid (inSet e q) n) (setBound e p) (e .sets) (λ q l. set-bounded P is o c q l),
       )

@@ -1,4 +1,4 @@
--- A fact along a walk: what its accesses cost is paid by the stays in its scope and by the accesses.
+-- A fact along a walk: what its accesses cost is paid by the stays in its scope, by the interruptions and by the accesses.
 use Prim.Native.Nat.{ℕ, suc, _+_, _-_, _*_, _%_, _≤_}
 use native.Mathlib.Omega.{arith}
 use native.Mathlib.Nat.{mul-add, mul-zero, mul-one, mul-le-mul-left}
@@ -14,6 +14,7 @@ use Rattle.paper.specs.Lists.{bit}
 use Rattle.paper.specs.Machines as Machines
 use Rattle.paper.specs.Cases.{Fact, Case, inside, scopeOf, rowOf}
 use Rattle.paper.specs.Walks.{Step, Follows, outside}
+use Rattle.paper.specs.Runs.{Event, visit, interruption, walkOf, interruptions}
 use Rattle.paper.specs.Bounds.{covers}
 use Rattle.paper.proofs.Says.{Says, holds, fails, says-eq, says-true}
 use Rattle.paper.proofs.GraphLaws.{inside-says}
@@ -36,16 +37,18 @@ module _ (e : Case) (M : Machine) (t : Fact) where
   abbrev pub since : Bool → ℕ → Bool
   since known v = inside scope v && (known || eqb (e .block v) (t .block))
 
-  -- σ has b's set before each visit of w. Once b was fetched in a stay, the visits take the set from state to state;
-  -- where nothing is known since b, any legal state may follow.
-  abbrev pub Taken : Bool → List ℕ → (ℕ → M .State) → Type 0
+  -- σ has b's set before each event of r. Once b was fetched in a stay, the visits take the set from state to state;
+  -- where nothing is known since b, any legal state may follow. After an interruption nothing is known.
+  abbrev pub Taken : Bool → List Event → (ℕ → M .State) → Type 0
   Taken known [] σ = Unit {0}
-  Taken known (v ∷ w) σ = M .Legal (σ 0) × (since known v ≡ true → σ 1 ≡ moved e M q v (σ 0)) × Taken (since known v) w (λ i. σ (suc i))
+  Taken known (visit v ∷ r) σ = M .Legal (σ 0) × (since known v ≡ true → σ 1 ≡ moved e M q v (σ 0)) × Taken (since known v) r (λ i. σ (suc i))
+  Taken known (interruption ∷ r) σ = Taken false r (λ i. σ (suc i))
 
   -- the misses of the fact's accesses
-  abbrev pub missed : List ℕ → (ℕ → M .State) → ℕ
+  abbrev pub missed : List Event → (ℕ → M .State) → ℕ
   missed [] σ = 0
-  missed (v ∷ w) σ = cond (covers e t v) (M .miss (t .block) (σ 0)) 0 + missed w (λ i. σ (suc i))
+  missed (visit v ∷ r) σ = cond (covers e t v) (M .miss (t .block) (σ 0)) 0 + missed r (λ i. σ (suc i))
+  missed (interruption ∷ r) σ = missed r (λ i. σ (suc i))
 
   module _ (real : t .block ≢ Machines.none) (rows : SoundEvidence e t) (c a d : ℕ) (L : Law M (t .block) (t .limit - 1) c a d) where
     -- After the visit p: b was not fetched in this stay, and where p is in the scope its first fetch is paid;
@@ -111,16 +114,21 @@ module _ (e : Case) (M : Machine) (t : Fact) where
             pays = omega (arith, r .1, mul-zero a, mul-one d);
           }
 
-    along : (w : List ℕ) (p : Option ℕ) (known : Bool) (x m : ℕ) (σ : ℕ → M .State) → Taken known w σ → Follows e p w → Mode known p x m (σ 0) →
-        c * missed w σ ≤ a * (tally (begins scope) p w + x) + d * paid (covers e t) (ones w) + m
+    along : (r : List Event) (p : Option ℕ) (known : Bool) (x m : ℕ) (σ : ℕ → M .State) → Taken known r σ → Follows e p (walkOf r) → Mode known p x m (σ 0) →
+        c * missed r σ ≤ a * (tally (begins scope) p (walkOf r) + interruptions r + x) + d * paid (covers e t) (ones (walkOf r)) + m
     unfolding covers
     along [] p known x m σ k f μ = omega (arith, mul-zero c)
-    along (v ∷ w) p known x m σ k f μ =
-        let r = turn p v x m (σ 0) (σ 1) (k .0) known (f .0) μ (inside-says scope v) (says-eq (e .block v) (t .block)) (k .1) in
-        let y = along w (some v) (since known v) (r .x′) (r .m′) (λ i. σ (suc i)) (k .2) (f .1) (r .mode) in
-        simp mul-add (omega (arith, simp mul-add at (r .pays), simp mul-add at y))
+    along (visit v ∷ r) p known x m σ k f μ =
+        let n = turn p v x m (σ 0) (σ 1) (k .0) known (f .0) μ (inside-says scope v) (says-eq (e .block v) (t .block)) (k .1) in
+        let y = along r (some v) (since known v) (n .x′) (n .m′) (λ i. σ (suc i)) (k .2) (f .1) (n .mode) in
+        simp mul-add (omega (arith, simp mul-add at (n .pays), simp mul-add at y))
+    -- what is known is lost, and one more first fetch of b is paid
+    along (interruption ∷ r) p known x m σ k f μ =
+        let y = along r p false (suc x) 0 (λ i. σ (suc i)) k f (λ o. omega arith) in
+        let z : tally (begins scope) p (walkOf r) + suc (interruptions r) + x ≡ tally (begins scope) p (walkOf r) + interruptions r + suc x = omega arith in
+        rw z (omega (arith, y))
 
-    -- c times the fact's misses, by the stays and the accesses
-    pub fact-pays : (w : List ℕ) (σ : ℕ → M .State) → Taken false w σ → Follows e none w →
-        c * missed w σ ≤ a * stays scope w + d * paid (covers e t) (ones w)
-    fact-pays w σ k f = omega (arith, simp mul-add at (along w none false 0 0 σ k f (λ o. absurd (true≢false o))), mul-zero a)
+    -- c times the fact's misses, by the stays, the interruptions and the accesses
+    pub fact-pays : (r : List Event) (σ : ℕ → M .State) → Taken false r σ → Follows e none (walkOf r) →
+        c * missed r σ ≤ a * (stays scope (walkOf r) + interruptions r) + d * paid (covers e t) (ones (walkOf r))
+    fact-pays r σ k f = simp mul-add (omega (arith, simp mul-add at (along r none false 0 0 σ k f (λ o. absurd (true≢false o))), mul-zero a))

@@ -126,7 +126,7 @@ module _ (e : Case) (without : (j : ℕ) → j < e .loops → e .loop j .visits 
           go (fails n) o = let m = h .head .scope n in (entries-le-count (t .scope) v m o, omega (arith, s .graph .fits (t .scope) m))
 
       -- some node of the scope fetches b (rule 14), so the lesser of E and N is E
-      entered-entries : entered e t ≡ entries e t
+      entered-entries : entered e 0 t ≡ entries e t
       unfolding entered counts
       entered-entries =
           let (v, o, b) = h .fetched in
@@ -138,10 +138,10 @@ module _ (e : Case) (without : (j : ℕ) → j < e .loops → e .loop j .visits 
             ap (λ (y : Bool). cond y (count e v) 0) (says-is (covers-says e t v) (o, b)),
           )
 
-      entered-product : entered e t ≡ productEntries e t
+      entered-product : entered e 0 t ≡ productEntries e t
       entered-product = entered-entries ∙ entries-product t (h .head .scope)
 
-      bound-product : factBound e t ≡ productBound e t
+      bound-product : factBound e 0 t ≡ productBound e t
       unfolding factBound productBound
       bound-product = rw (entered-product, counts-product (covers e t)) refl
 
@@ -157,30 +157,30 @@ module _ (e : Case) (without : (j : ℕ) → j < e .loops → e .loop j .visits 
           sum-same _ _ (e .facts) (λ i m. ap (λ (x : ℕ). cond (lives e q (e .fact i .block) && test (e .fact i)) x 0) (same i m)),
         )
 
-    A-product : (q : ℕ) → A e q ≡ productSum e (anyFact e) (productBound e) q
+    A-product : (q : ℕ) → A e 0 q ≡ productSum e (anyFact e) (productBound e) q
     unfolding A
-    A-product q = sum-product (anyFact e) (factBound e) (productBound e) (λ i m. bound-product (e .fact i) (s .facts i m)) q
+    A-product q = sum-product (anyFact e) (factBound e 0) (productBound e) (λ i m. bound-product (e .fact i) (s .facts i m)) q
 
-    floor-product : (q j : ℕ) → floorAt e q j ≡ productFloor e q j
+    floor-product : (q j : ℕ) → floorAt e 0 q j ≡ productFloor e q j
     unfolding floorAt productFloor M
     floor-product q j =
-        ap (floorOf (e .ways) (suc j)) (sum-product (upTo e (suc j)) (entered e) (productEntries e) (λ i m. entered-product (e .fact i) (s .facts i m)) q)
+        ap (floorOf (e .ways) (suc j)) (sum-product (upTo e (suc j)) (entered e 0) (productEntries e) (λ i m. entered-product (e .fact i) (s .facts i m)) q)
 
-    set-product : (q : ℕ) → setBound e q ≡ productSet e q
+    set-product : (q : ℕ) → setBound e 0 q ≡ productSet e q
     unfolding setBound productSet
-    set-product q = rw (A-product q, lowest-same (floorAt e q) (productFloor e q) (productSum e (anyFact e) (productBound e) q) (floor-product q) (e .ways)) refl
+    set-product q = rw (A-product q, lowest-same (floorAt e 0 q) (productFloor e q) (productSum e (anyFact e) (productBound e) q) (floor-product q) (e .ways)) refl
 
-    number-product : (i : ℕ) → numberAt e i ≡ productNumber e i
+    number-product : (i : ℕ) → numberAt e 0 i ≡ productNumber e i
     unfolding numberAt productNumber totalBound
     number-product i =
         rw (
-          sum-same (setBound e) (productSet e) (e .sets) (λ q l. set-product q),
+          sum-same (setBound e 0) (productSet e) (e .sets) (λ q l. set-product q),
           set-product (i - setsFrom),
           below-same (i - factsFrom) (e .facts) _ _ (λ l. bound-product (e .fact (i - factsFrom)) (s .facts (i - factsFrom) l)),
         )
         refl
 
-    pub numbers-product : numbers e ≡ productNumbers e
+    pub numbers-product : numbers e 0 ≡ productNumbers e
     numbers-product = same-table _ _ listLength (λ i l. number-product i)
 
 -- "Version 1 is read as without W"
@@ -189,5 +189,5 @@ unfolding caseOf loopAt
 version-one f h j = visits-without (trailerOf f .version) _ h
 
 -- "and gives its old numbers"
-pub old-numbers : (f : List ℕ) (room : ℕ) → trailerOf f .version ≡ withoutW → verdict f room ≡ Accepted → numbers (readCase f) ≡ productNumbers (readCase f)
+pub old-numbers : (f : List ℕ) (room : ℕ) → trailerOf f .version ≡ withoutW → verdict f room ≡ Accepted → numbers (readCase f) 0 ≡ productNumbers (readCase f)
 old-numbers f room v h = numbers-product (readCase f) (λ j l. version-one f v j) (file-sound f (enough f room h) .1)

@@ -1,6 +1,6 @@
 //! "The bounds" of facts, sets and the whole, in numbers of 128 bits.
 
-use super::{Fact, Graph, Rules, Stakes};
+use super::{Case, Fact, Graph, Rules, Stakes};
 use crate::machine::{Geometry, Policy};
 use std::collections::BTreeMap;
 
@@ -23,6 +23,7 @@ struct Fetcher {
 struct Charge {
     set: usize,
     limit: u128,
+    /// What M(l) has for it.
     entries: u128,
     bound: u128,
 }
@@ -30,12 +31,15 @@ struct Charge {
 pub struct Ledger<'a> {
     rules: &'a dyn Rules,
     geometry: Geometry,
+    /// "the greatest number p of such interruptions"
+    interruptions: u128,
     fetchers: Vec<Fetcher>,
     charges: Vec<Charge>,
 }
 
 impl<'a> Ledger<'a> {
-    pub fn new(geometry: Geometry, graph: &Graph, facts: &[Fact], rules: &'a dyn Rules) -> Ledger<'a> {
+    pub fn new(case: &Case, interruptions: u16, rules: &'a dyn Rules) -> Ledger<'a> {
+        let Case { geometry, graph, facts } = case;
         let mut cover = BTreeMap::new();
         for (i, fact) in facts.iter().enumerate() {
             cover.extend(graph.fetchers(fact.scope, fact.block).map(|node| (node, i)));
@@ -46,26 +50,34 @@ impl<'a> Ledger<'a> {
             count: rules.count(graph, node),
             fact: cover.get(&node).copied(),
         });
-        let mut ledger = Ledger { rules, geometry, fetchers: fetchers.collect(), charges: Vec::new() };
-        ledger.charges = facts.iter().enumerate().map(|(i, fact)| ledger.charge(i, fact, graph)).collect();
+        let (geometry, interruptions) = (*geometry, interruptions.into());
+        let mut ledger = Ledger { rules, geometry, interruptions, fetchers: fetchers.collect(), charges: Vec::new() };
+        let set_of = |fact: &Fact| geometry.set_of(fact.block);
+        let before = |i: usize| facts[..i].iter().filter(|fact| set_of(fact) == set_of(&facts[i])).count();
+        ledger.charges = (0..facts.len()).map(|i| ledger.charge(i, &facts[i], graph, before(i))).collect();
         ledger
     }
 
-    /// "For a fact: E is its entries, N the sum of counts of its nodes that fetch b", and in place of E the lesser of
-    /// the two is charged.
-    fn charge(&self, i: usize, fact: &Fact, graph: &Graph) -> Charge {
+    /// "For a fact: E is its entries, N the sum of counts of its nodes that fetch b", and in place of E the lesser of E + p
+    /// and N is charged.
+    fn charge(&self, i: usize, fact: &Fact, graph: &Graph, before_in_set: usize) -> Charge {
         let covered = self.fetchers.iter().filter(|fetcher| fetcher.fact == Some(i));
         let fetches = covered.map(|fetcher| fetcher.count).sum();
-        let entries = self.rules.entered(self.rules.entries(graph, fact.scope), fetches);
+        let entries = self.rules.entries(graph, fact.scope);
+        let interruptions = self.rules.interruptions(self.interruptions, before_in_set);
         let stakes = Stakes {
             policy: self.geometry.shape.policy,
             ways: self.geometry.shape.ways as u128,
             limit: fact.limit as u128,
-            entries,
+            entries: self.rules.entered(entries, interruptions, fetches),
             fetches,
         };
-        let bound = self.rules.fact_bound(stakes);
-        Charge { set: self.geometry.set_of(fact.block), limit: stakes.limit, entries, bound }
+        Charge {
+            set: self.geometry.set_of(fact.block),
+            limit: stakes.limit,
+            entries: self.rules.entered_in_m(entries, interruptions, fetches),
+            bound: self.rules.fact_bound(stakes),
+        }
     }
 
     /// The price of the set's facts with limit at most `limit`, plus the counts of its fetching nodes that none of these

@@ -11,7 +11,7 @@ pub struct Stakes {
     pub policy: Policy,
     pub ways: u128,
     pub limit: u128,
-    /// The lesser of E and N.
+    /// The lesser of E + p and N.
     pub entries: u128,
     pub fetches: u128,
 }
@@ -31,9 +31,19 @@ pub trait Rules {
         }
     }
 
-    /// "Since N may now be below E, every bound uses the lesser of E and N in place of E."
-    fn entered(&self, entries: u128, fetches: u128) -> u128 {
-        entries.min(fetches)
+    /// p, which is every fact's: also of those that are not the first of their set.
+    fn interruptions(&self, most: u128, _before_in_set: usize) -> u128 {
+        most
+    }
+
+    /// "Every fact's E becomes the lesser of E + p and N, in fact bounds and in M(l), for each policy."
+    fn entered(&self, entries: u128, interruptions: u128, fetches: u128) -> u128 {
+        fetches.min(entries + interruptions)
+    }
+
+    /// The same in M(l).
+    fn entered_in_m(&self, entries: u128, interruptions: u128, fetches: u128) -> u128 {
+        self.entered(entries, interruptions, fetches)
     }
 
     /// "g = ceil(k/(l-1))"

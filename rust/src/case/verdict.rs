@@ -16,7 +16,13 @@ pub struct Case {
     pub geometry: Geometry,
     pub graph: Graph,
     pub facts: Vec<Fact>,
-    pub bounds: Bounds,
+}
+
+impl Case {
+    /// "The caller hands the greatest number p of such interruptions, 0 to 65,535." The verdict does not ask for it.
+    pub fn bounds(&self, interruptions: u16, rules: &dyn Rules) -> Bounds {
+        Ledger::new(self, interruptions, rules).bounds()
+    }
 }
 
 /// "1 to 10 in order, each over the whole file; then for each fact in turn 11 to 18; then 19": 24 and 25 "stand at 17's
@@ -26,14 +32,13 @@ pub fn judge(file: &[u8], rules: &dyn Rules) -> Result<Case, Refusal> {
     let graph = read_graph(&layout)?;
     let geometry = layout.geometry;
     let facts = read_facts(&layout, &Ground { geometry, graph: &graph, rules })?;
-    let bounds = Ledger::new(geometry, &graph, &facts, rules).bounds();
-    Ok(Case { geometry, graph, facts, bounds })
+    Ok(Case { geometry, graph, facts })
 }
 
 /// "The check tests 20 first". "the total, 64 set bounds, 256 fact bounds, unused ones 0, later ones untouched."
-pub fn check(file: &[u8], numbers: &mut [u64], rules: &dyn Rules) -> Result<(), Refusal> {
+pub fn check(file: &[u8], interruptions: u16, numbers: &mut [u64], rules: &dyn Rules) -> Result<(), Refusal> {
     demand(20, numbers.len() >= NUMBERS)?;
-    let Bounds { total, sets, facts } = judge(file, rules)?.bounds;
+    let Bounds { total, sets, facts } = judge(file, rules)?.bounds(interruptions, rules);
     let padded = |list: Vec<u128>, length| list.into_iter().chain(std::iter::repeat(0)).take(length);
     let all = std::iter::once(total).chain(padded(sets, 64)).chain(padded(facts, 256));
     for (slot, number) in numbers.iter_mut().zip(all) {

@@ -151,7 +151,9 @@ pub fn drafts() -> Vec<Draft> {
         // The largest file that can be accepted.
         with_facts(with_loops(with_edges(nodes(1_024), 4_096), 64), 256),
     ];
-    drafts.extend((0..4).flat_map(|policy| [1, 10, 1_000_000].map(|bound| alone(policy, bound))));
+    // With 65,535 interruptions E + p is 65,536.
+    let bounds = [1, 2, 3, 10, 65_535, 65_536, 65_537, 1_000_000];
+    drafts.extend((0..4).flat_map(|policy| bounds.map(|bound| alone(policy, bound))));
     drafts.extend((0..4).flat_map(|policy| [heavy(policy), heavy_fact(policy, 2), heavy_fact(policy, 8)]));
     drafts.extend(limits());
     drafts.extend((0..4).flat_map(|policy| [1, 2, 3, 8].map(|limit| seldom(policy, limit))));

@@ -15,6 +15,9 @@ use crate::random::Random;
 use crate::show;
 use std::collections::{BTreeMap, BTreeSet};
 
+/// "With p = 0 all is as before, and `bounds` keeps to 0."
+const INTERRUPTIONS: u16 = 0;
+
 /// How often each kind of text must be seen.
 const AT_LEAST: u64 = 10;
 
@@ -52,7 +55,7 @@ pub fn run(bounds: &Program, pipe: &Pipe, settings: &Settings) -> Result<(), Str
 
 /// Starts the program on the file, and holds what it prints to the second simulator's listing.
 fn compare(bounds: &Program, file: &[u8], seen: &mut Seen) -> Result<(), String> {
-    let own = listing(file);
+    let own = listing(file, INTERRUPTIONS);
     let said = bounds.converse(file.to_vec())?;
     if said.bytes != own.as_bytes() || !said.status.success() {
         let printed = String::from_utf8_lossy(&said.bytes);

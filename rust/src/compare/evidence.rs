@@ -5,6 +5,7 @@ use super::gathering::gather;
 use super::{agree, Settings};
 use crate::case::{Draft, FactRecord, Gathered, Graph, Lists, Row, RowRecord, Scope, NUMBERS};
 use crate::generate::cases::{sound, Plan};
+use crate::generate::interruptions;
 use crate::machine::Geometry;
 use crate::pipe::{Pipe, Request};
 use crate::random::Random;
@@ -73,7 +74,7 @@ pub fn run(pipe: &Pipe, settings: &Settings) -> Result<(), String> {
         let graphs = left.min(TOGETHER);
         let trials: Vec<Tried<Draft>> = (0..graphs).flat_map(|_| trials(&mut random)).collect();
         trials.iter().try_for_each(|tried| again.add(&tried.rows.write()))?;
-        try_all(pipe, &trials, &mut counts)?;
+        try_all(&mut random, pipe, &trials, &mut counts)?;
         left -= graphs;
     }
     println!("evidence on {} graphs: {counts:?}", settings.graphs);
@@ -84,8 +85,17 @@ pub fn run(pipe: &Pipe, settings: &Settings) -> Result<(), String> {
     }
 }
 
-fn try_all(pipe: &Pipe, trials: &[Tried<Draft>], counts: &mut BTreeMap<Trial, u64>) -> Result<(), String> {
-    let check = |tried: &Tried<Draft>| Request::Check { file: tried.rows.write(), numbers: vec![1; NUMBERS] };
+fn try_all(
+    random: &mut Random,
+    pipe: &Pipe,
+    trials: &[Tried<Draft>],
+    counts: &mut BTreeMap<Trial, u64>,
+) -> Result<(), String> {
+    let check = |tried: &Tried<Draft>| Request::Check {
+        interruptions: interruptions(random),
+        file: tried.rows.write(),
+        numbers: vec![1; NUMBERS],
+    };
     let requests: Vec<Request> = trials.iter().map(check).collect();
     let answers = agree(pipe, &requests)?;
     for (tried, answer) in trials.iter().zip(answers) {

@@ -6,6 +6,7 @@ use super::{borders, Comparison, Settings};
 use crate::case::{Paper, NUMBERS};
 use crate::generate::cases::{sound, Plan};
 use crate::generate::damage::{damage, scatter, RULES};
+use crate::generate::interruptions;
 use crate::generate::pinched::pinched;
 use crate::pipe::{Pipe, Request};
 use crate::random::Random;
@@ -22,7 +23,9 @@ pub fn run(pipe: &Pipe, settings: &Settings) -> Result<(), String> {
     for draft in borders::drafts() {
         let file = draft.write();
         again.add(&file)?;
-        comparison.add(check(&mut random, file, NUMBERS + 3))?;
+        for interruptions in [0, 1, 65_535] {
+            comparison.add(check(&mut random, file.clone(), interruptions, NUMBERS + 3))?;
+        }
     }
     for i in 0..settings.files {
         let (file, numbers) = match i % 20 {
@@ -31,7 +34,8 @@ pub fn run(pipe: &Pipe, settings: &Settings) -> Result<(), String> {
             _ => damaged_file(&mut random, i / 20),
         };
         again.add(&file)?;
-        comparison.add(check(&mut random, file, numbers))?;
+        let interruptions = interruptions(&mut random);
+        comparison.add(check(&mut random, file, interruptions, numbers))?;
     }
     comparison.flush()?;
     kinds.report();
@@ -40,9 +44,11 @@ pub fn run(pipe: &Pipe, settings: &Settings) -> Result<(), String> {
     println!("second places: apart from the number in the scope, one of several, of several rules, before an 18:");
     println!("{}", tally.seconds.table());
     tally.dead.report();
+    tally.interrupted.report();
     tally.demand(5, RULES.into_iter().chain([0]), AT_LEAST)?;
     tally.seconds.demand(&seconds::NUMBERS, AT_LEAST / 5)?;
     tally.dead.demand(AT_LEAST / 5)?;
+    tally.interrupted.demand(AT_LEAST)?;
     kinds.nests.demand(AT_LEAST)?;
     kinds.nests.demand_near(AT_LEAST / 5)?;
     again.finish()
@@ -52,8 +58,8 @@ pub fn run(pipe: &Pipe, settings: &Settings) -> Result<(), String> {
 type Asked = (Vec<u8>, usize);
 
 /// A lent list with noise in it.
-fn check(random: &mut Random, file: Vec<u8>, numbers: usize) -> Request {
-    Request::Check { file, numbers: random.noise(numbers, |number| number) }
+fn check(random: &mut Random, file: Vec<u8>, interruptions: u16, numbers: usize) -> Request {
+    Request::Check { interruptions, file, numbers: random.noise(numbers, |number| number) }
 }
 
 fn sound_file(random: &mut Random, kinds: &mut Kinds) -> Asked {

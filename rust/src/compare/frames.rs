@@ -24,7 +24,7 @@ fn small_frames() -> Vec<Request> {
         Request::Block { address: 4_000, line_size: 32 },
         Request::Set { block: 77, sets: 8 },
         Request::Trace { policy: 1, ways: 2, sets: 1, blocks: vec![1, 2, 3], marks: vec![7; 4] },
-        Request::Check { file: vec![81, 77, 66, 84], numbers: vec![5] },
+        Request::Check { interruptions: 258, file: vec![81, 77, 66, 84], numbers: vec![5] },
         Request::Write { content: content([1, 2, 3, 4, 8]), out: vec![7; 50] },
         Request::Find { file: vec![81, 77, 66, 84, 3], scope: 1, block: 700, rows: vec![5; 3] },
         Request::Salvage { file: vec![81, 77, 66, 84, 3], out: vec![7; 4], dropped: vec![5; 2] },
@@ -90,7 +90,7 @@ fn too_large() -> Vec<(Vec<u8>, &'static [u8])> {
         blocks: vec![0; accesses],
         marks: vec![0; marks],
     };
-    let check = |file, numbers| Request::Check { file: vec![0; file], numbers: vec![0; numbers] };
+    let check = |file, numbers| Request::Check { interruptions: 0, file: vec![0; file], numbers: vec![0; numbers] };
     let write = |lists, out| Request::Write { content: content(lists), out: vec![0; out] };
     let find = |file, rows| Request::Find { file: vec![0; file], scope: 0, block: 0, rows: vec![0; rows] };
     let salvage =
@@ -113,7 +113,7 @@ fn too_large() -> Vec<(Vec<u8>, &'static [u8])> {
         salvage(0, 0, room::DROPPED + 1),
     ];
     let mut frames: Vec<(Vec<u8>, &[u8])> = whole.iter().map(|frame| (frame.encode(), &[TOO_LARGE][..])).collect();
-    let heads = [(&[4, 0, 1, 1][..], 8), (&[5], 8), (&[6, 1, 0, 1, 1], 24), (&[7, 0, 0, 0, 0], 8), (&[8], 12)];
+    let heads = [(&[4, 0, 1, 1][..], 8), (&[5, 0, 0], 8), (&[6, 1, 0, 1, 1], 24), (&[7, 0, 0, 0, 0], 8), (&[8], 12)];
     for (head, lengths) in heads {
         frames.push(([head, &vec![0xff; lengths]].concat(), &[CUT_SHORT, TOO_LARGE]));
     }
@@ -124,9 +124,9 @@ fn too_large() -> Vec<(Vec<u8>, &'static [u8])> {
 fn largest_frames(pipe: &Pipe) -> Result<(), String> {
     let largest = [
         Request::Trace { policy: 0, ways: 1, sets: 1, blocks: vec![3; room::ACCESSES], marks: vec![2; room::MARKS] },
-        Request::Check { file: vec![7; room::FILE], numbers: vec![7; room::NUMBERS] },
+        Request::Check { interruptions: 65_535, file: vec![7; room::FILE], numbers: vec![7; room::NUMBERS] },
         Request::Trace { policy: 0, ways: 1, sets: 1, blocks: Vec::new(), marks: Vec::new() },
-        Request::Check { file: Vec::new(), numbers: Vec::new() },
+        Request::Check { interruptions: 0, file: Vec::new(), numbers: Vec::new() },
         Request::Write {
             content: content([room::NODES, room::EDGES, room::LOOPS, room::HEADS, room::ROWS]),
             out: vec![7; room::OUT],

@@ -76,7 +76,7 @@ impl<'a> Comparison<'a> {
     pub fn add(&mut self, request: Request) -> Result<(), String> {
         self.weight += match &request {
             Request::Trace { blocks, marks, .. } => 2 * blocks.len() + marks.len(),
-            Request::Check { file, numbers } => file.len() + 8 * numbers.len(),
+            Request::Check { file, numbers, .. } => file.len() + 8 * numbers.len(),
             Request::Write { content, out } => 2 * content.rows.len() + out.len(),
             Request::Find { file, rows, .. } => file.len() + 2 * rows.len(),
             Request::Salvage { file, out, dropped } => file.len() + out.len() + 8 * dropped.len(),

@@ -5,6 +5,7 @@ use super::{borders, Comparison, Settings};
 use crate::case::{read_content, write, Content, Draft, Paper, NUMBERS};
 use crate::generate::cases::{sound, Plan};
 use crate::generate::damage::{damage, spoil, stir, RULES, WRITTEN};
+use crate::generate::interruptions;
 use crate::pipe::{Pipe, Request};
 use crate::random::Random;
 use crate::show;
@@ -105,6 +106,7 @@ impl Writing<'_> {
             return Err(format!("what is written does not read back as the same lists\n{}", show::file(&out)));
         }
         self.files.add(&out)?;
-        self.contents.add(Request::Check { file: out, numbers: random.noise(NUMBERS, |number| number) })
+        let (interruptions, numbers) = (interruptions(random), random.noise(NUMBERS, |number| number));
+        self.contents.add(Request::Check { interruptions, file: out, numbers })
     }
 }

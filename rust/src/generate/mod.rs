@@ -28,6 +28,12 @@ pub fn palette(random: &mut Random, size: usize, sets: u16) -> Vec<u16> {
     blocks
 }
 
+/// How often handlers may run at the most: "0 to 65,535", small numbers more often, where E + p is not far from N.
+pub fn interruptions(random: &mut Random) -> u16 {
+    let (few, any) = (random.within(2..=40) as u16, random.word());
+    random.pick(&[0, 0, 1, 1, few, few, any, 65_535])
+}
+
 /// A number of sets, small ones more often.
 pub fn sets(random: &mut Random) -> u8 {
     let any = random.within(1..=64) as u8;

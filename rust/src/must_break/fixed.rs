@@ -4,6 +4,7 @@ use super::Break;
 use crate::case::{Draft, FactRecord, Lists, LoopRecord, Row, WHOLE_GRAPH};
 use crate::generate::graphs::steps;
 use crate::machine::{SetState, NONE};
+use crate::walk::Interruption;
 
 /// The block that each file's fact is about.
 const B: u16 = 10;
@@ -22,6 +23,9 @@ pub fn all() -> Vec<Break> {
         visited_in_each_stay(),
         left_early(),
         tree_again(),
+        interrupted(0),
+        interrupted(1),
+        both_lost(),
     ]
 }
 
@@ -38,6 +42,7 @@ fn chain((policy, ways): (u8, u8), nodes: &[u16], limit: u16, rows: &[Row], star
         walk: (0..nodes.len()).collect(),
         draft: Draft { version: 1, policy, ways, sets: 1, lists, facts },
         contents: vec![start],
+        interruptions: Vec::new(),
     }
 }
 
@@ -82,7 +87,7 @@ fn entered_twice() -> Break {
     };
     let facts = vec![FactRecord { scope: 1, block: B, limit: 1, rows: vec![blocks(&[]).record()] }];
     let draft = Draft { version: 1, policy: 0, ways: 1, sets: 1, lists, facts };
-    Break { draft, walk: vec![0, 1, 1, 0, 1, 1], contents: vec![SetState::EMPTY] }
+    Break { draft, walk: vec![0, 1, 1, 0, 1, 1], contents: vec![SetState::EMPTY], interruptions: Vec::new() }
 }
 
 /// Node 1 fetches another block between the two fetches of b, and the last row does not say so.
@@ -102,7 +107,12 @@ fn visited_in_each_stay() -> Break {
         ],
     };
     let draft = Draft { version: 2, policy: 0, ways: 1, sets: 1, lists, facts: Vec::new() };
-    Break { draft, walk: vec![0, 1, 2, 1, 2, 0, 1, 2, 1, 2], contents: vec![SetState::EMPTY] }
+    Break {
+        draft,
+        walk: vec![0, 1, 2, 1, 2, 0, 1, 2, 1, 2],
+        contents: vec![SetState::EMPTY],
+        interruptions: Vec::new(),
+    }
 }
 
 /// Each stay in the inner loop takes one of W visits, not B of them: so there are three stays, and each misses.
@@ -114,5 +124,40 @@ fn left_early() -> Break {
     };
     let facts = vec![FactRecord { scope: 1, block: B, limit: 1, rows: vec![blocks(&[]).record()] }];
     let draft = Draft { version: 2, policy: 0, ways: 1, sets: 1, lists, facts };
-    Break { draft, walk: vec![0, 1, 0, 1, 0, 1], contents: vec![SetState::EMPTY] }
+    Break { draft, walk: vec![0, 1, 0, 1, 0, 1], contents: vec![SetState::EMPTY], interruptions: Vec::new() }
+}
+
+/// b is alone in its loop, and misses where it is entered. Then a handler leaves nothing of it, and it misses once more.
+fn interrupted(policy: u8) -> Break {
+    let lists = Lists { nodes: vec![B], edges: vec![(0, 0)], loops: vec![LoopRecord::new(0, 0, 3)] };
+    let facts = vec![FactRecord { scope: 0, block: B, limit: 1, rows: vec![blocks(&[]).record()] }];
+    Break {
+        draft: Draft { version: 1, policy, ways: 2, sets: 1, lists, facts },
+        walk: vec![0, 0, 0],
+        contents: vec![SetState::EMPTY],
+        interruptions: vec![Interruption { after: 2, left: vec![SetState::EMPTY] }],
+    }
+}
+
+/// Two blocks, each with a fact: a handler leaves neither of them, and both miss once more.
+fn both_lost() -> Break {
+    const OTHER: u16 = 20;
+    let fact = |block, rows: [Row; 4]| FactRecord {
+        scope: WHOLE_GRAPH,
+        block,
+        limit: 2,
+        rows: rows.iter().map(Row::record).collect(),
+    };
+    let nodes = vec![B, OTHER, B, OTHER];
+    let lists = Lists { edges: steps(nodes.len() as u16).collect(), nodes, loops: Vec::new() };
+    let facts = vec![
+        fact(B, [Row::NotSince, blocks(&[]), blocks(&[OTHER]), blocks(&[])]),
+        fact(OTHER, [Row::NotSince, Row::NotSince, blocks(&[]), blocks(&[B])]),
+    ];
+    Break {
+        draft: Draft { version: 1, policy: 0, ways: 2, sets: 1, lists, facts },
+        walk: vec![0, 1, 2, 3],
+        contents: vec![SetState::EMPTY],
+        interruptions: vec![Interruption { after: 2, left: vec![SetState::EMPTY] }],
+    }
 }

@@ -14,13 +14,21 @@ use crate::compare::agree;
 use crate::machine::{legal, SetState};
 use crate::pipe::{Pipe, Request};
 use crate::show;
-use crate::walk::{is_walk, keeps_limits, Measure, Walker};
+use crate::walk::{is_walk, keeps_limits, Interruption, Measure, Walker};
 
-/// A file, a walk and a start content on which misses exceed what a wrong rule gives.
+/// A file, a walk, a start content and interruptions on which misses exceed what a wrong rule gives.
 pub struct Break {
     pub draft: Draft,
     pub walk: Vec<usize>,
     pub contents: Vec<SetState>,
+    pub interruptions: Vec<Interruption>,
+}
+
+impl Break {
+    /// How many interruptions the caller has to hand.
+    fn most(&self) -> u16 {
+        self.interruptions.len() as u16
+    }
 }
 
 /// One wrong rule, with its name.
@@ -41,9 +49,10 @@ pub fn run(pipe: Option<&Pipe>) -> Result<(), String> {
 
 fn through(pipe: &Pipe) -> Result<(), String> {
     let mut again = Again::new(pipe, None);
-    for file in fixed::all().iter().map(|found| found.draft.write()) {
+    for found in fixed::all() {
+        let file = found.draft.write();
         again.add(&file)?;
-        agree(pipe, &[Request::Check { file, numbers: vec![0; NUMBERS] }])?;
+        agree(pipe, &[Request::Check { interruptions: found.most(), file, numbers: vec![0; NUMBERS] }])?;
     }
     for file in salvages::files() {
         let (out, dropped) = (vec![165; file.len()], vec![7; 9]);
@@ -59,10 +68,11 @@ fn examine(wrong: &Wrong, found: &Break) -> Result<String, String> {
     let case =
         judge(&file, wrong.rules).map_err(|refusal| format!("not even the wrong rule accepts it: {refusal:?}"))?;
     let walker = walk(&case, found)?;
-    let Measure { of, misses, bound } = *walker.misses.exceeding(&case.bounds).last().ok_or("nothing is exceeded")?;
-    let verdict = match judge(&file, &Paper) {
+    let exceeded = walker.misses.exceeding(&case.bounds(found.most(), wrong.rules));
+    let Measure { of, misses, bound } = *exceeded.last().ok_or("nothing is exceeded")?;
+    let verdict = match judge(&file, &Paper).map(|right| right.bounds(found.most(), &Paper)) {
         Err(refusal) => show::verdict(Some(refusal)),
-        Ok(right) if walker.misses.exceeding(&right.bounds).is_empty() => of.among(&right.bounds).to_string(),
+        Ok(right) if walker.misses.exceeding(&right).is_empty() => of.among(&right).to_string(),
         Ok(_) => return Err("the paper's own bounds are exceeded".to_string()),
     };
     let story = show::story(&found.draft, &found.contents, &walker);
@@ -70,15 +80,20 @@ fn examine(wrong: &Wrong, found: &Break) -> Result<String, String> {
     Ok(format!("wrong: {}\n{story}  {numbers}\n  the file:\n{}", wrong.name, show::hex(&file)))
 }
 
-/// Goes along the walk, which must keep the limits, from the content, which must be legal.
+/// Goes along the walk, which must keep the limits, from the content, which must be legal, as must be what handlers leave.
 fn walk<'a>(case: &'a Case, found: &Break) -> Result<Walker<'a>, String> {
-    if !found.contents.iter().all(|state| legal(case.geometry.shape, state)) {
-        return Err("the start content is not legal".to_string());
+    let left = found.interruptions.iter().flat_map(|interruption| &interruption.left);
+    if !found.contents.iter().chain(left).all(|state| legal(case.geometry.shape, state)) {
+        return Err("the start content, or what a handler leaves, is not legal".to_string());
     }
     if !is_walk(&case.graph, &found.walk) || !keeps_limits(&case.graph, &found.walk) {
         return Err("no walk, or not within the limits".to_string());
     }
     let mut walker = Walker::new(case, &found.contents);
-    found.walk.iter().for_each(|&node| walker.visit(node));
+    for before in 0..=found.walk.len() {
+        let handlers = found.interruptions.iter().filter(|interruption| interruption.after == before);
+        handlers.for_each(|interruption| walker.interrupt(&interruption.left));
+        found.walk[before..].iter().take(1).for_each(|&node| walker.visit(node));
+    }
     Ok(walker)
 }

@@ -35,19 +35,29 @@ fn size(found: &Break) -> usize {
     let lines = |state: &SetState| state.lines.iter().filter(|&&line| line != crate::machine::NONE).count();
     let starts: usize = found.contents.iter().map(lines).sum();
     let rows: usize = found.draft.facts.iter().map(|fact| fact.rows.len()).sum();
-    8 * lists.nodes.len() + 4 * lists.edges.len() + 4 * lists.loops.len() + rows + 2 * found.walk.len() + starts
+    let handlers = 8 * found.interruptions.len();
+    8 * lists.nodes.len()
+        + 4 * lists.edges.len()
+        + 4 * lists.loops.len()
+        + rows
+        + 2 * found.walk.len()
+        + starts
+        + handlers
 }
 
 fn attempt(random: &mut Random, wrong: &Wrong) -> Option<Break> {
     let draft = braid(random, wrong.rules);
     let case = judge(&draft.write(), wrong.rules).ok()?;
     for _ in 0..20 {
+        let most = random.below(3) as u16;
         let contents = contents(random, case.geometry, &draft.lists.nodes);
         let mut walker = Walker::new(&case, &contents);
-        let bent = Bent::any(random);
+        let bent = Bent::any(random, most);
         walker.wander(random, 60, bent);
-        if !walker.misses.exceeding(&case.bounds).is_empty() {
-            return Some(Break { walk: walker.walk.clone(), draft, contents });
+        // The caller may hand as many as there are.
+        let (walk, interruptions) = (walker.walk.clone(), walker.interruptions.clone());
+        if !walker.misses.exceeding(&case.bounds(interruptions.len() as u16, wrong.rules)).is_empty() {
+            return Some(Break { walk, draft, contents, interruptions });
         }
     }
     None

@@ -5,7 +5,7 @@ use crate::case::{Graph, Paper, Rules, Scope, Stakes};
 use crate::machine::Policy;
 use std::collections::BTreeSet;
 
-pub const ALL: [Wrong; 11] = [
+pub const ALL: [Wrong; 14] = [
     Wrong { name: "LRU's fact bound E used for FIFO", rules: &LruForFifo },
     Wrong { name: "(l-1) times E for NMRU with l >= 3", rules: &FactorTooSmall },
     Wrong { name: "E for NMRU with l >= 3", rules: &FactorForgotten },
@@ -17,6 +17,9 @@ pub const ALL: [Wrong; 11] = [
     Wrong { name: "the outer loop's W for the loops inside it", rules: &OuterForInner },
     Wrong { name: "W/B entries", rules: &FullStays },
     Wrong { name: "E for the tree with l = 2 + log2 k", rules: &TreeLimitTooLarge },
+    Wrong { name: "the lesser of E and N, without p", rules: &InterruptionsForgotten },
+    Wrong { name: "the lesser of E and N, without p, in M(l)", rules: &InterruptionsForgottenInM },
+    Wrong { name: "p once a set, and not once a fact", rules: &InterruptionsOnceASet },
 ];
 
 struct LruForFifo;
@@ -119,5 +122,33 @@ struct TreeLimitTooLarge;
 impl Rules for TreeLimitTooLarge {
     fn tree_limit(&self, ways: u128) -> u128 {
         Paper.tree_limit(ways) + 1
+    }
+}
+
+struct InterruptionsForgotten;
+
+impl Rules for InterruptionsForgotten {
+    fn entered(&self, entries: u128, _interruptions: u128, fetches: u128) -> u128 {
+        Paper.entered(entries, 0, fetches)
+    }
+}
+
+struct InterruptionsForgottenInM;
+
+impl Rules for InterruptionsForgottenInM {
+    fn entered_in_m(&self, entries: u128, _interruptions: u128, fetches: u128) -> u128 {
+        Paper.entered_in_m(entries, 0, fetches)
+    }
+}
+
+struct InterruptionsOnceASet;
+
+impl Rules for InterruptionsOnceASet {
+    fn interruptions(&self, most: u128, before_in_set: usize) -> u128 {
+        if before_in_set == 0 {
+            most
+        } else {
+            0
+        }
     }
 }

@@ -10,7 +10,7 @@ pub enum Request {
     Block { address: u32, line_size: u32 },
     Set { block: u16, sets: u8 },
     Trace { policy: u8, ways: u8, sets: u8, blocks: Vec<u16>, marks: Vec<u8> },
-    Check { file: Vec<u8>, numbers: Vec<u64> },
+    Check { interruptions: u16, file: Vec<u8>, numbers: Vec<u64> },
     Write { content: Content, out: Vec<u8> },
     Find { file: Vec<u8>, scope: u16, block: u16, rows: Vec<u16> },
     Salvage { file: Vec<u8>, out: Vec<u8>, dropped: Vec<u64> },
@@ -50,7 +50,8 @@ impl Request {
                 put_list(blocks, &mut out);
                 out.extend_from_slice(marks);
             }
-            Request::Check { file, numbers } => {
+            Request::Check { interruptions, file, numbers } => {
+                interruptions.put(&mut out);
                 put_lengths([file.len(), numbers.len()], &mut out);
                 out.extend_from_slice(file);
                 put_list(numbers, &mut out);

@@ -2,7 +2,7 @@
 
 use crate::case::{Draft, FactRecord, LoopRecord, Row, RowRecord, NO_LIMIT, WHOLE_GRAPH};
 use crate::machine::{block_or_none, Outcome, SetState};
-use crate::walk::Walker;
+use crate::walk::{Interruption, Walker};
 
 fn block(number: u16) -> String {
     block_or_none(number).map_or("none".to_string(), |block| block.to_string())
@@ -65,7 +65,14 @@ pub fn state(state: &SetState) -> String {
     format!("lines {}, bits {} ({:08b})", lines.join(" "), state.bits, state.bits)
 }
 
-/// A file, the content that a walk through it starts with, and the walk, visit by visit.
+/// What an interruption leaves in each set.
+fn interruption(interruption: &Interruption) -> String {
+    let Interruption { after, left } = interruption;
+    let left = left.iter().enumerate().map(|(set, content)| format!("set {set} with {}", state(content)));
+    format!("  after {after} visits a handler leaves {}\n", join(left))
+}
+
+/// A file, the content that a walk through it starts with, what handlers leave, and the walk, visit by visit.
 pub fn story(file: &Draft, contents: &[SetState], walker: &Walker) -> String {
     let starts =
         contents.iter().enumerate().map(|(set, content)| format!("  set {set} starts with {}\n", state(content)));
@@ -75,5 +82,6 @@ pub fn story(file: &Draft, contents: &[SetState], walker: &Walker) -> String {
         None => "",
     };
     let visits = walker.walk.iter().zip(&walker.outcomes).map(|(node, outcome)| format!("{node}{}", word(outcome)));
-    format!("{}{}  walk: {}\n", draft(file), starts.collect::<String>(), join(visits))
+    let handlers: String = walker.interruptions.iter().map(interruption).collect();
+    format!("{}{}{handlers}  walk: {}\n", draft(file), starts.collect::<String>(), join(visits))
 }

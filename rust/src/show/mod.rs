@@ -46,7 +46,9 @@ pub fn file(bytes: &[u8]) -> String {
 /// A request in words, and its frame; of a check, a find and a salvage the file alone, since their lists are noise.
 pub fn request(request: &Request) -> String {
     match request {
-        Request::Check { file: bytes, numbers } => format!("check, {} numbers lent\n{}", numbers.len(), file(bytes)),
+        Request::Check { interruptions, file: bytes, numbers } => {
+            format!("check, {interruptions} interruptions, {} numbers lent\n{}", numbers.len(), file(bytes))
+        }
         Request::Write { content, out } => format!("write, {} bytes lent\n{}", out.len(), lists(content)),
         Request::Find { file: bytes, scope, block, rows } => {
             format!("find, scope {scope}, block {block}, {} numbers lent\n{}", rows.len(), file(bytes))

@@ -1,11 +1,13 @@
 //! How often each refusal was seen, and where.
 
 pub mod dead;
+pub mod interrupted;
 pub mod seconds;
 
 use crate::case::{claimed_numbers, Draft};
 use crate::pipe::{Answer, Body, Request};
 use dead::Dead;
+use interrupted::Interrupted;
 use seconds::Seconds;
 use std::collections::BTreeMap;
 
@@ -23,6 +25,7 @@ pub struct Tally {
     seen: BTreeMap<(u8, u8), Places>,
     pub seconds: Seconds,
     pub dead: Dead,
+    pub interrupted: Interrupted,
     pub accesses: u64,
     pub misses: u64,
 }
@@ -82,6 +85,9 @@ impl Tally {
         }
         if let Some(draft) = answer.refusal.filter(|refusal| refusal.number == 26).and_then(|_| lists(request)) {
             self.dead.add(&draft);
+        }
+        if let (Request::Check { interruptions, .. }, None) = (request, answer.refusal) {
+            lists(request).into_iter().for_each(|draft| self.interrupted.add(&draft, *interruptions));
         }
         if let (Request::Trace { blocks, .. }, None, Body::Trace { misses, .. }) =
             (request, answer.refusal, &answer.body)

@@ -51,7 +51,7 @@ impl Misses {
     }
 
     /// Each number beside its bound.
-    fn beside<'a>(&'a self, bounds: &'a Bounds) -> impl Iterator<Item = Measure> + 'a {
+    pub fn beside<'a>(&'a self, bounds: &'a Bounds) -> impl Iterator<Item = Measure> + 'a {
         let total = std::iter::once((Number::Total, self.total));
         let sets = self.sets.iter().enumerate().map(|(set, &misses)| (Number::Set(set), misses));
         let facts = self.facts.iter().enumerate().map(|(fact, &misses)| (Number::Fact(fact), misses));
@@ -63,9 +63,9 @@ impl Misses {
         self.beside(bounds).filter(|number| number.misses > number.bound).collect()
     }
 
-    /// How many numbers are as large as their bounds: how sharp the bounds are, and how hard the walks tried.
-    pub fn reaching(&self, bounds: &Bounds) -> usize {
-        self.beside(bounds).filter(|number| number.misses == number.bound && number.misses > 0).count()
+    /// The numbers that are as large as their bounds: how sharp the bounds are, and how hard the walks tried.
+    pub fn reaching<'a>(&'a self, bounds: &'a Bounds) -> impl Iterator<Item = Measure> + 'a {
+        self.beside(bounds).filter(|number| number.misses == number.bound && number.misses > 0)
     }
 
     /// Of each number the larger one.

@@ -7,20 +7,34 @@ pub use limits::{is_walk, keeps_limits};
 pub use misses::{Measure, Misses, Number};
 
 use crate::case::{Case, Loop};
-use crate::machine::{load, CacheSet, Outcome, SetState};
+use crate::generate::states::contents;
+use crate::machine::{load, CacheSet, Outcome, SetState, NONE};
 use crate::random::Random;
 
-/// How a walk picks its next node, in a hundred: where it misses, else back to a header, else anywhere.
+/// How a walk picks its next node, in a hundred: where it misses, else back to a header, else anywhere. And how often, in a
+/// hundred, a handler runs where a fetch would hit, and how often in all at the most.
 #[derive(Clone, Copy)]
 pub struct Bent {
     pub missing: usize,
     pub back: usize,
+    pub cut: usize,
+    pub most: u16,
 }
 
 impl Bent {
-    pub fn any(random: &mut Random) -> Bent {
-        Bent { missing: random.pick(&[0, 50, 90]), back: random.pick(&[0, 50, 90]) }
+    pub fn any(random: &mut Random, most: u16) -> Bent {
+        let (missing, back) = (random.pick(&[0, 50, 90]), random.pick(&[0, 50, 90]));
+        Bent { missing, back, cut: random.pick(&[0, 8, 25, 60]), most }
     }
+}
+
+/// "Between two fetches of the register task a handler may run and leave any legal content in any set."
+#[derive(Clone)]
+pub struct Interruption {
+    /// How many visits come before it.
+    pub after: usize,
+    /// What it leaves in each set.
+    pub left: Vec<SetState>,
 }
 
 pub struct Walker<'a> {
@@ -30,6 +44,7 @@ pub struct Walker<'a> {
     header_visits: Vec<u128>,
     all_visits: Vec<u128>,
     pub walk: Vec<usize>,
+    pub interruptions: Vec<Interruption>,
     /// For each visit, what its fetch was; None where the node fetches nothing.
     pub outcomes: Vec<Option<Outcome>>,
     pub misses: Misses,
@@ -44,6 +59,7 @@ impl<'a> Walker<'a> {
             header_visits: vec![0; case.graph.loops.len()],
             all_visits: vec![0; case.graph.loops.len()],
             walk: Vec::new(),
+            interruptions: Vec::new(),
             outcomes: Vec::new(),
             misses: Misses::none(contents.len(), case.facts.len()),
         }
@@ -86,6 +102,12 @@ impl<'a> Walker<'a> {
         self.outcomes.push(outcome);
     }
 
+    /// A handler runs. Its own misses are not counted: "only our own misses are counted".
+    pub fn interrupt(&mut self, left: &[SetState]) {
+        self.cache = left.iter().map(|state| load(self.case.geometry.shape, state)).collect();
+        self.interruptions.push(Interruption { after: self.walk.len(), left: left.to_vec() });
+    }
+
     fn fetch(&mut self, node: usize, block: u16) -> Outcome {
         let set = self.case.geometry.set_of(block);
         let outcome = self.cache[set].fetch(block);
@@ -95,15 +117,40 @@ impl<'a> Walker<'a> {
         outcome
     }
 
-    fn would_miss(&self, node: usize) -> bool {
-        let block = self.case.graph.blocks[node];
-        block.is_some_and(|block| !self.cache[self.case.geometry.set_of(block)].holds(block))
+    /// Whether the node's block stands in the cache; None where it fetches nothing.
+    fn would_hit(&self, node: usize) -> Option<bool> {
+        self.case.graph.blocks[node].map(|block| self.cache[self.case.geometry.set_of(block)].holds(block))
     }
 
-    /// Goes on until nothing may be visited or the walk is long enough.
+    fn would_miss(&self, node: usize) -> bool {
+        self.would_hit(node) == Some(false)
+    }
+
+    /// Handlers run before the next visit, seldom where they can do no harm.
+    fn run_handlers(&mut self, random: &mut Random, choices: &[usize], bent: Bent) {
+        let harmful = choices.iter().any(|&node| self.would_hit(node) == Some(true));
+        let cut = if harmful { bent.cut } else { bent.cut / 8 };
+        while self.interruptions.len() < bent.most.into() && random.chance(cut) {
+            let left = self.left_by_a_handler(random);
+            self.interrupt(&left);
+        }
+    }
+
+    /// Any legal content in each set, or in some of them while the others stay as they were.
+    fn left_by_a_handler(&self, random: &mut Random) -> Vec<SetState> {
+        let nodes: Vec<u16> = self.case.graph.blocks.iter().map(|block| block.unwrap_or(NONE)).collect();
+        let any = contents(random, self.case.geometry, &nodes);
+        let touched = random.pick(&[100, 100, 50]);
+        let left = any.into_iter().zip(&self.cache);
+        left.map(|(state, set)| if random.chance(touched) { state } else { set.state() }).collect()
+    }
+
+    /// Goes on until nothing may be visited or the walk is long enough. Handlers run before the first visit too, and after
+    /// the last.
     pub fn wander(&mut self, random: &mut Random, longest: usize, bent: Bent) {
         while self.walk.len() < longest {
             let choices = self.choices();
+            self.run_handlers(random, &choices, bent);
             let missing = choices.iter().copied().filter(|&node| random.chance(bent.missing) && self.would_miss(node));
             let missing: Vec<usize> = missing.collect();
             let goes_back = |node| self.walk.last() >= Some(&node);

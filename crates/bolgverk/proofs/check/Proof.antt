@@ -7,7 +7,7 @@ use Rattle.bolgverk.proofs.check.Statement.{statement}
 use Rattle.bolgverk.proofs.check.Tie as tie
 
 returns : tie.Need-returns
-returns c = too-short _ _ _ (c .before .if1 .taken) (c .refuse .ensures)
+returns c = too-short _ _ _ _ (c .before .if1 .taken) (c .refuse .ensures)
 
 rule-on-requires : tie.Need-rule-on-requires
 rule-on-requires c κs =
@@ -21,12 +21,12 @@ returns-2 c =
     let j = c .before .before in
     let m = j .before .before .before in
     let l = m .before .before in
-    ruled-check _ _ (l .before .if1 .left) _ (l .layout-of .ensures) _ (m .read .given .1) _ _ (j .rule-on .ensures)
+    ruled-check _ _ _ (l .before .if1 .left) _ (l .layout-of .ensures) _ (m .read .given .1) _ _ (j .rule-on .ensures)
 
 returns-3 : tie.Need-returns-3
 returns-3 c =
     let l = c .before .before .before in
-    layout-refused _ _ (l .before .if1 .left) _ (l .layout-of .ensures) _ (c .before .read2 .given .1)
+    layout-refused _ _ _ (l .before .if1 .left) _ (l .layout-of .ensures) _ (c .before .read2 .given .1)
 
 pub check-spec : {M : Type 1} → statement M
 check-spec =

@@ -19,8 +19,8 @@ start c = c .before .before .before .before .before
 
 cleared : (c : tie.After-clear) →
     let a = start c .args in
-    Part (caseOf (a .file .now) (a .trailer)) 0 0 0 (a .numbers .now) (c .clear .last .0)
-cleared c = part-start _ _ _ (start c .pre .1 .1 .1 .1) (c .clear .ensures)
+    Part (caseOf (a .file .now) (a .trailer)) (a .interruptions) 0 0 0 (a .numbers .now) (c .clear .last .0)
+cleared c = part-start _ _ _ _ (start c .pre .1 .1 .1 .1) (c .clear .ensures)
 
 -- where the facts' tables are lent, and where the facts are charged
 abbrev lent : tie.After-cover → tie.After-clear
@@ -33,7 +33,7 @@ charge-facts-requires : tie.Need-charge-facts-requires
 unfolding caseOf
 charge-facts-requires c κs =
     let k = before-facts c in
-    (ready (start k), (covered-start _ (start k .pre .0 .nodes-high), (grouped-start _ _ _ _, part-self _ _ _ _ _ _ (cleared k))))
+    (ready (start k), (covered-start _ (start k .pre .0 .nodes-high), (grouped-start _ _ _ _, part-self _ _ _ _ _ _ _ (cleared k))))
 
 -- where the nodes' tables are lent, and where the nodes are charged
 abbrev facts : tie.After-spent → tie.After-charge-facts
@@ -48,7 +48,7 @@ charge-sets-requires c κs =
     let f = facts (n .before) in
     let r = ready (start (before-facts (f .before))) in
     let w = f .charge-facts .ensures .1 in
-    (record { laid = r .laid; sound = r .sound; facts = w .0; nodes = n .charge-nodes .ensures }, part-self _ _ _ _ _ _ (w .1))
+    (record { laid = r .laid; sound = r .sound; facts = w .0; nodes = n .charge-nodes .ensures }, part-self _ _ _ _ _ _ _ (w .1))
 
 -- where the sets are charged
 abbrev charged : tie.After-charge-sets → tie.After-charge-facts
@@ -66,7 +66,7 @@ returns c =
     let s = c .before .before in
     let f = charged s in
     let k = before-facts (f .before) in
-    part-end _ (start k .args .numbers .now) _ _ (f .charge-facts .ensures .1 .1 .later ∙ cleared k .later) (s .charge-sets .ensures)
+    part-end _ _ (start k .args .numbers .now) _ _ (f .charge-facts .ensures .1 .1 .later ∙ cleared k .later) (s .charge-sets .ensures)
 
 pub charge-spec : {M : Type 1} → statement M
 charge-spec =

@@ -5,7 +5,7 @@ use native.Mathlib.Nat.{mul-le-mul}
 use mathlib.Core.Path.{refl}
 use borrow.Author.Needs.{needs}
 use borrow.Author.Tests.{lt-ltb, le-ltb}
-use Rattle.paper.specs.Ceilings.{mostCount}
+use Rattle.formulas.specs.Largest.{largestVisits}
 use Rattle.formulas.proofs.nmru_bound.Statement.{statement}
 use Rattle.formulas.proofs.nmru_bound.Tie as tie
 
@@ -15,7 +15,7 @@ returns c = rw (lt-ltb (c .before .args .l) 3 (omega (arith, c .if1 .taken))) re
 mul-lesser : tie.Need-mul-lesser
 mul-lesser c =
     let h : c .before .args .l ≤ 8 = omega arith in
-    let k : c .before .args .e ≤ mostCount = omega arith in
+    let k : c .before .args .e ≤ largestVisits = omega arith in
     omega (arith, mul-le-mul h k)
 
 returns-2 : tie.Need-returns-2

@@ -17,12 +17,12 @@ returns : tie.Need-returns
 returns c =
     let r = c .before .before .before in
     let p = r .before .before .before .check .ensures in
-    printed-as (refused-text _ _ _ (check-answer _ _ _ _ p) (r .r .given .1)) (c .refused .ensures)
+    printed-as (refused-text _ _ _ _ (check-answer _ _ _ _ _ p) (r .r .given .1)) (c .refused .ensures)
 
 returns-2 : tie.Need-returns-2
 returns-2 c =
     let r = c .before .before .before in
-    printed-as (layout-text _ _ (sym (r .before .before .layout-of .ensures) ∙ r .r2 .given .1)) (c .refused2 .ensures)
+    printed-as (layout-text _ _ _ (sym (r .before .before .layout-of .ensures) ∙ r .r2 .given .1)) (c .refused2 .ensures)
 
 returns-3 : tie.Need-returns-3
 returns-3 c =
@@ -31,7 +31,7 @@ returns-3 c =
     let o = read .before .before in
     let p = o .before .before .before .before .check .ensures in
     printed-as
-    (accepted-text _ _ _ _ _ (sym (o .layout-of .ensures) ∙ read .trailer .given .1) (check-answer _ _ _ _ p) (p .numbers) (o .before .enum-told .given .1))
+    (accepted-text _ _ _ _ _ _ (sym (o .layout-of .ensures) ∙ read .trailer .given .1) (check-answer _ _ _ _ _ p) (p .numbers) (o .before .enum-told .given .1))
     (c .accepted .ensures)
 
 pub checked-spec : {M : Type 1} → statement M

@@ -5,7 +5,7 @@ use Rattle.ruling.proofs.rule_on.Statement.{statement}
 use Rattle.ruling.proofs.rule_on.Tie as tie
 
 returns : tie.Need-returns
-returns c = graph-refused _ _ _ (c .before .before .before .before .graph-rules .ensures .0) _ _ (c .before .graph .given .1)
+returns c = graph-refused _ _ _ (c .before .before .before .before .graph-rules .ensures .0) _ _ _ (c .before .graph .given .1)
 
 fact-rules-requires : tie.Need-fact-rules-requires
 fact-rules-requires c κs =
@@ -17,7 +17,7 @@ returns-2 c =
     let f = c .before .before .before in
     let g = f .before in
     let a = g .before .before .before in
-    facts-refused _ _ _ (a .graph-rules .ensures .0) (g .enum-told .given .1) _ (f .fact-rules .ensures) _ _ (c .before .facts .given .1)
+    facts-refused _ _ _ (a .graph-rules .ensures .0) (g .enum-told .given .1) _ (f .fact-rules .ensures) _ _ _ (c .before .facts .given .1)
 
 charge-requires : tie.Need-charge-requires
 charge-requires c κs =
@@ -37,7 +37,7 @@ returns-3 c =
     let f = e .before .before in
     let g = f .before in
     let a = g .before .before .before in
-    judged _ _ _ (a .graph-rules .ensures .0) (g .enum-told .given .1) _ (f .fact-rules .ensures) (e .enum-told2 .given .1) _ _ (k .charge .ensures)
+    judged _ _ _ (a .graph-rules .ensures .0) (g .enum-told .given .1) _ (f .fact-rules .ensures) (e .enum-told2 .given .1) _ _ _ (k .charge .ensures)
 
 pub rule-on-spec : {M : Type 1} → statement M
 rule-on-spec =

@@ -11,6 +11,7 @@ use super::{borders, Comparison, Settings};
 use crate::case::{judge, search, Draft, Found, Gathered, Graph, Paper, Scope, NUMBERS, ROW_NUMBERS, WHOLE_GRAPH};
 use crate::generate::cases::{sound, Plan};
 use crate::generate::damage::{damage, FOUND, RULES};
+use crate::generate::interruptions;
 use crate::machine::{Geometry, NONE};
 use crate::pipe::{Pipe, Request};
 use crate::random::Random;
@@ -114,13 +115,13 @@ impl Finding<'_> {
         })?;
         self.seen.add(&found);
         if let Some((limit, rows)) = &found {
-            self.try_file(with_fact(draft, (scope, block, *limit), rows.clone()).write(), true)?;
+            self.try_file(random, with_fact(draft, (scope, block, *limit), rows.clone()).write(), true)?;
         }
         Ok(found)
     }
 
     /// Checks the file, which must be accepted or refused for its evidence, and has it written again.
-    fn try_file(&mut self, file: Vec<u8>, accepted: bool) -> Result<(), String> {
+    fn try_file(&mut self, random: &mut Random, file: Vec<u8>, accepted: bool) -> Result<(), String> {
         let refusal = judge(&file, &Paper).err();
         let as_due = match refusal {
             None => accepted,
@@ -130,7 +131,7 @@ impl Finding<'_> {
             return Err(format!("{}\n{}", show::verdict(refusal), show::file(&file)));
         }
         self.files.add(&file)?;
-        self.requests.add(Request::Check { file, numbers: vec![1; NUMBERS] })
+        self.requests.add(Request::Check { interruptions: interruptions(random), file, numbers: vec![1; NUMBERS] })
     }
 
     /// With a limit that is too small no rows are accepted: not the exact ones, and where there are few ways to fill the
@@ -147,10 +148,11 @@ impl Finding<'_> {
             return Ok(());
         }
         self.seen.too_small += 1;
-        self.try_file(with_fact(draft, fact, records(&gathered.rows(limit))).write(), false)?;
+        self.try_file(random, with_fact(draft, fact, records(&gathered.rows(limit))).write(), false)?;
         let all = rows::all(gathered, limit).filter(|_| random.chance(30));
         self.seen.all_rows += u64::from(all.is_some());
-        all.into_iter().flatten().try_for_each(|rows| self.try_file(with_fact(draft, fact, rows).write(), false))
+        let mut all = all.into_iter().flatten();
+        all.try_for_each(|rows| self.try_file(random, with_fact(draft, fact, rows).write(), false))
     }
 
     /// Files with faults, and questions that cannot be asked, one at a time or several so that their order shows.

@@ -10,6 +10,7 @@ use super::{borders, Comparison, Settings};
 use crate::case::{Apart, Draft, Paper, Salvaged, NUMBERS, TRAILER};
 use crate::generate::cases::{sound, Plan};
 use crate::generate::damage::{damage, scatter, several, RULES, SALVAGED};
+use crate::generate::interruptions;
 use crate::pipe::{room, Pipe, Request};
 use crate::random::Random;
 use crate::show;
@@ -89,9 +90,9 @@ fn scattered(random: &mut Random, draft: &Draft) -> Vec<u8> {
     [graph, &facts, &trailer].concat()
 }
 
-/// A fault of the graph, and often of a fact as well.
+/// A fault of the graph, and often of a fact as well. 10 has two turns: a W may bring a count back, and other faults come before it.
 fn refused(random: &mut Random, draft: &Draft, turn: usize) -> Vec<u8> {
-    let of_graph = &SALVAGED[..SALVAGED.len() - 1];
+    let of_graph: Vec<u8> = SALVAGED.into_iter().filter(|&rule| rule != 20).chain([10]).collect();
     let mut rules = vec![of_graph[turn % of_graph.len()], random.pick(&RULES)];
     rules.dedup();
     rules.truncate(random.within(1..=2));
@@ -123,13 +124,13 @@ impl Salvaging<'_> {
         self.seen.add(&apart, &salvaged, room);
         self.ask(random, &file, room)?;
         let checks = hold(&apart, &file, &salvaged).map_err(|fault| format!("{fault}\n{}", show::file(&file)))?;
-        checks.into_iter().try_for_each(|file| self.check(file))?;
+        checks.into_iter().try_for_each(|file| self.check(random, file))?;
         // What is left stays as it is.
         self.ask(random, &salvaged.file, (salvaged.file.len() + 2, 2))?;
         let fewer = fewer::remove(random, &salvaged.file).map_err(|fault| format!("{fault}\n{}", show::file(&file)))?;
         self.seen.removals += fewer.len() as u64;
-        fewer.into_iter().try_for_each(|file| self.check(file))?;
-        self.check(salvaged.file)
+        fewer.into_iter().try_for_each(|file| self.check(random, file))?;
+        self.check(random, salvaged.file)
     }
 
     fn ask(&mut self, random: &mut Random, file: &[u8], (bytes, numbers): (usize, usize)) -> Result<(), String> {
@@ -138,8 +139,8 @@ impl Salvaging<'_> {
         self.requests.add(Request::Salvage { file: file.to_vec(), out, dropped })
     }
 
-    fn check(&mut self, file: Vec<u8>) -> Result<(), String> {
-        self.requests.add(Request::Check { file, numbers: vec![1; NUMBERS] })
+    fn check(&mut self, random: &mut Random, file: Vec<u8>) -> Result<(), String> {
+        self.requests.add(Request::Check { interruptions: interruptions(random), file, numbers: vec![1; NUMBERS] })
     }
 
     /// A small file, sound or not, without its bytes from each place on: with the trailer put back, and without it.

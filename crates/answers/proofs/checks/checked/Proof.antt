@@ -9,13 +9,14 @@ returns c =
     let k = c .before .before in
     let b = k .before .before .before .before .before in
     let u = b .before .before .before in
-    let s = u .before .before .before .before in
-    check-asked (s .args .request .now) (s .args .lent .now) (u .u32-at .ensures) (s .pre .0) (b .read-numbers .ensures) (k .check .ensures)
+    let x = u .before .before in
+    let s = x .before .before .before .before in
+    check-asked (s .args .request .now) (s .args .lent .now) (x .u16-at .ensures) (u .u32-at .ensures) (s .pre .0) (b .read-numbers .ensures) (k .check .ensures)
 
 pub checked-spec : {M : Type 1} → statement M
 checked-spec =
     tie.close
     (tie.spec
-    (λ c κs. search needs) (λ c. search needs) (λ c. search needs) (λ c. search needs) (λ c. search needs) (λ c κs. search needs)
+    (λ c κs. search needs) (λ c κs. search needs) (λ c. search needs) (λ c. search needs) (λ c. search needs) (λ c. search needs) (λ c κs. search needs)
     (λ c. search needs) (λ c. search needs) (λ c. search needs) (λ c κs. search needs) (λ c. search needs)
     returns)

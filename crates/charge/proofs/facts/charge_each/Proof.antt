@@ -9,10 +9,10 @@ use Rattle.charge.proofs.facts.charge_each.Statement.{statement}
 use Rattle.charge.proofs.facts.charge_each.Tie as tie
 
 abbrev Inv-loop : tie.InvT-loop
-Inv-loop file trailer counts outers chain cover₀ charged₀ entered₀ numbers₀ n p₀ i₀ cover charged entered numbers p i = Adding file trailer numbers₀ i p cover charged entered numbers
+Inv-loop file trailer counts interruptions outers chain cover₀ charged₀ entered₀ numbers₀ n p₀ i₀ cover charged entered numbers p i = Adding file trailer interruptions numbers₀ i p cover charged entered numbers
 
 abbrev μ-loop : tie.MeasureT-loop
-μ-loop file trailer counts outers chain cover₀ charged₀ entered₀ numbers₀ n p₀ i₀ cover charged entered numbers p i = n - i
+μ-loop file trailer counts interruptions outers chain cover₀ charged₀ entered₀ numbers₀ n p₀ i₀ cover charged entered numbers p i = n - i
 
 -- where the place of the first fact is computed
 abbrev start : tie.After-struct-known Inv-loop μ-loop → tie.Start Inv-loop μ-loop
@@ -41,14 +41,14 @@ charge-fact-requires c κs =
     let s = whole (i .before) .pre in
     let w = i .before .loop .inv in
     let h = i .loop-test .taken in
-    (s .0, (s .1 .0, (s .1 .1 .0, (head-at _ _ _ _ _ _ _ _ _ w _ (s .0) h, (end-at _ _ _ _ _ _ _ _ _ w _ (s .0) h, adding-limits _ _ _ _ _ _ _ _ _ w)))))
+    (s .0, (s .1 .0, (s .1 .1 .0, (head-at _ _ _ _ _ _ _ _ _ _ w _ (s .0) h, (end-at _ _ _ _ _ _ _ _ _ _ w _ (s .0) h, adding-limits _ _ _ _ _ _ _ _ _ _ w)))))
 
 add-requires : tie.Need-add-requires Inv-loop μ-loop
 add-requires c κs =
     let f = c .before .before in
     let i = turn f in
     let r = whole (i .before) .pre .0 in
-    ((omega (arith, r .laid .sets-low), r .laid .sets-high), adding-open _ _ _ _ _ _ _ _ _ (i .before .loop .inv) _ r (i .loop-test .taken) _ (f .charge-fact .ensures .0))
+    ((omega (arith, r .laid .sets-low), r .laid .sets-high), adding-open _ _ _ _ _ _ _ _ _ _ (i .before .loop .inv) _ r (i .loop-test .taken) _ (f .charge-fact .ensures .0))
 
 -- where its cost is added
 abbrev charged : tie.After-add Inv-loop μ-loop → tie.After-charge-fact Inv-loop μ-loop
@@ -58,7 +58,7 @@ loop-again : tie.Need-loop-again Inv-loop μ-loop
 loop-again c =
     let k = charged c .charge-fact .ensures in
     let i = turn (charged c) in
-    adding-more _ _ _ _ _ _ _ _ _ (i .before .loop .inv) _ (whole (i .before) .pre .0) (i .loop-test .taken) _ (k .0) _ _ _ (k .1) (c .add .ensures .0) (c .add .ensures .1)
+    adding-more _ _ _ _ _ _ _ _ _ _ (i .before .loop .inv) _ (whole (i .before) .pre .0) (i .loop-test .taken) _ (k .0) _ _ _ (k .1) (c .add .ensures .0) (c .add .ensures .1)
 
 pub charge-each-spec : {M : Type 1} → statement M
 charge-each-spec =
@@ -77,4 +77,4 @@ charge-each-spec =
     (λ c. omega (arith, turn (charged c) .loop-test .taken))
     loop-again
     (λ c. c .before .loop .inv .part .room)
-    (λ c. adding-end _ _ _ _ _ _ _ _ _ (c .before .loop .inv) (c .loop-test .left)))
+    (λ c. adding-end _ _ _ _ _ _ _ _ _ _ (c .before .loop .inv) (c .loop-test .left)))

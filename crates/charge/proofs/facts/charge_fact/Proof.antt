@@ -3,8 +3,8 @@ use Prim.Native.Nat.{_≤_}
 use native.Mathlib.Omega.{arith}
 use mathlib.Core.Path.{_≡_, ap}
 use borrow.Author.Needs.{needs}
-use Rattle.paper.specs.Ceilings.{mostCount}
 use Rattle.paper.specs.Files.{u16At, factAt, caseOf}
+use Rattle.formulas.specs.Largest.{largestVisits}
 use Rattle.charge.specs.Tables.{headOf}
 use Rattle.charge.specs.declared.heads.Head.{Head}
 use Rattle.charge.proofs.Entries.{entries-low}
@@ -29,6 +29,14 @@ entries-of-requires c κs =
 abbrev read : tie.After-cover-nodes → tie.After-entries-of
 read c = c .before .before
 
+-- E is a count, or 1
+entered-requires : tie.Need-entered-requires
+entered-requires c κs =
+    let e = read c in
+    let s = start (e .before) in
+    let t = factAt (s .args .file .now) (s .args .p) in
+    omega (arith, e .entries-of .ensures, entries-low _ (s .pre .0 .sound .graph) t (s .pre .1 .1 .1 .0 .scope))
+
 bound-of-requires : tie.Need-bound-of-requires
 unfolding caseOf headOf
 bound-of-requires c κs =
@@ -38,8 +46,7 @@ bound-of-requires c κs =
     let p = start h .pre in
     let s = p .1 .1 .1 .0 in
     let el = ap (λ (k : Head). k .limit) (h .head-at .ensures) in
-    let t = factAt (start h .args .file .now) (start h .args .p) in
-    let low : x .lesser .result ≤ mostCount = omega (arith, x .lesser .ensures, read n .entries-of .ensures, entries-low _ (p .0 .sound .graph) t (s .scope)) in
+    let low : x .entered .result ≤ largestVisits = omega (arith, x .entered .ensures, n .cover-nodes .ensures .1 .0) in
     (omega (arith, el, s .high), (p .0 .laid .ways-high, (low, n .cover-nodes .ensures .1 .0)))
 
 returns : tie.Need-returns
@@ -49,7 +56,7 @@ returns c =
     let e = read n in
     let eh = e .before .head-at .ensures in
     let m = n .cover-nodes .ensures in
-    (cost-is _ _ _ _ eh _ _ _ _ (e .entries-of .ensures) (m .0) (x .lesser .ensures) (c .bound-of .ensures), lowered-is _ _ _ _ eh _ _ (m .1 .1))
+    (cost-is _ _ _ _ eh _ _ _ _ _ (e .entries-of .ensures) (m .0) (x .entered .ensures) (c .bound-of .ensures), lowered-is _ _ _ _ eh _ _ (m .1 .1))
 
 pub charge-fact-spec : {M : Type 1} → statement M
 charge-fact-spec =
@@ -58,6 +65,7 @@ charge-fact-spec =
     (λ c κs. let p = c .before .before .pre in (p .0, (p .1 .1 .1 .0, p .1 .1 .1 .1 .0)))
     entries-of-requires
     (λ c κs. let p = start (c .before .before) .pre in (p .0, (p .1 .1 .0, p .1 .1 .1 .1 .1)))
-    (λ c κs. search needs) (λ c. search needs) (λ c. search needs)
+    entered-requires
+    (λ c. search needs) (λ c. search needs)
     bound-of-requires
     returns)

@@ -14,11 +14,11 @@ use Rattle.charge.proofs.sets.charge_sets.Statement.{statement}
 use Rattle.charge.proofs.sets.charge_sets.Tie as tie
 
 abbrev Inv-loop : tie.InvT-loop
-Inv-loop file trailer charged entered fetched spent numbers₀ n total₀ q₀ numbers total q =
-    Part (caseOf file trailer) 0 q (trailer .facts) numbers₀ numbers × Added (setBound (caseOf file trailer)) largestA (trailer .sets) total q
+Inv-loop file trailer interruptions charged entered fetched spent numbers₀ n total₀ q₀ numbers total q =
+    Part (caseOf file trailer) interruptions 0 q (trailer .facts) numbers₀ numbers × Added (setBound (caseOf file trailer) interruptions) largestA (trailer .sets) total q
 
 abbrev μ-loop : tie.MeasureT-loop
-μ-loop file trailer charged entered fetched spent numbers₀ n total₀ q₀ numbers total q = n - q
+μ-loop file trailer interruptions charged entered fetched spent numbers₀ n total₀ q₀ numbers total q = n - q
 
 -- where a turn begins
 abbrev start : tie.In-loop Inv-loop μ-loop → tie.Start Inv-loop μ-loop
@@ -31,11 +31,11 @@ loop-again : tie.Need-loop-again Inv-loop μ-loop
 loop-again c =
     let w = c .before .before .loop .inv in
     let s = c .set-bound .ensures in
-    (part-set _ _ _ _ _ _ (low (c .before)) (s .0) (w .0), added-more _ _ _ _ _ _ (w .1) (c .before .loop-test .taken) (s .0) (s .1))
+    (part-set _ _ _ _ _ _ _ (low (c .before)) (s .0) (w .0), added-more _ _ _ _ _ _ (w .1) (c .before .loop-test .taken) (s .0) (s .1))
 
 returns : tie.Need-returns Inv-loop μ-loop
 unfolding caseOf
-returns c = part-total _ _ _ _ _ _ _ (c .before .loop .inv .0) (c .before .loop .inv .1) (c .loop-test .left)
+returns c = part-total _ _ _ _ _ _ _ _ (c .before .loop .inv .0) (c .before .loop .inv .1) (c .loop-test .left)
 
 pub charge-sets-spec : {M : Type 1} → statement M
 charge-sets-spec =

@@ -12,13 +12,13 @@ use Rattle.charge.proofs.sets.least_floor.Statement.{statement}
 use Rattle.charge.proofs.sets.least_floor.Tie as tie
 
 abbrev Inv-loop : tie.InvT-loop
-Inv-loop file trailer charged entered fetched spent q a k m₀ x₀ j₀ m x j = Flooring (caseOf file trailer) q a m x j
+Inv-loop file trailer interruptions charged entered fetched spent q a k m₀ x₀ j₀ m x j = Flooring (caseOf file trailer) interruptions q a m x j
 
 abbrev μ-loop : tie.MeasureT-loop
-μ-loop file trailer charged entered fetched spent q a k m₀ x₀ j₀ m x j = k - j
+μ-loop file trailer interruptions charged entered fetched spent q a k m₀ x₀ j₀ m x j = k - j
 
 loop-holds : tie.Need-loop-holds Inv-loop μ-loop
-loop-holds c = let p = c .before .before .before .pre in flooring-start _ _ _ _ _ _ (p .0) _ (p .1) _
+loop-holds c = let p = c .before .before .before .pre in flooring-start _ _ _ _ _ _ _ (p .0) _ (p .1) _
 
 -- where a turn begins
 abbrev start : tie.In-loop Inv-loop μ-loop → tie.Start Inv-loop μ-loop
@@ -32,7 +32,7 @@ add-m : tie.Need-add-m Inv-loop μ-loop
 add-m c =
     let i = c .before in
     let p = start i .pre in
-    omega (arith, in-small _ _ _ _ _ _ (p .0) _ (p .1) _ _ _ _ (i .before .loop .inv) (i .loop-test .taken), i .loop-test .taken, p .0 .laid .ways-high)
+    omega (arith, in-small _ _ _ _ _ _ _ (p .0) _ (p .1) _ _ _ _ (i .before .loop .inv) (i .loop-test .taken), i .loop-test .taken, p .0 .laid .ways-high)
 
 -- where M(l) is there
 abbrev turn : tie.After-m3 Inv-loop μ-loop → tie.In-loop Inv-loop μ-loop
@@ -42,20 +42,20 @@ sub-m : tie.Need-sub-m Inv-loop μ-loop
 sub-m c =
     let i = turn c in
     let p = start i .pre in
-    out-fits _ _ _ _ _ _ (p .0) _ (p .1) _ _ _ _ (i .before .loop .inv) (i .loop-test .taken)
+    out-fits _ _ _ _ _ _ _ (p .0) _ (p .1) _ _ _ _ (i .before .loop .inv) (i .loop-test .taken)
 
 floor-of-requires : tie.Need-floor-of-requires Inv-loop μ-loop
 floor-of-requires c κs =
     let i = turn c in
     let h = i .loop-test .taken in
     let p = start i .pre in
-    (omega (arith, h), (p .0 .laid .ways-high, next-small _ _ _ _ _ _ (p .0) _ (p .1) _ _ _ _ (i .before .loop .inv) h))
+    (omega (arith, h), (p .0 .laid .ways-high, next-small _ _ _ _ _ _ _ (p .0) _ (p .1) _ _ _ _ (i .before .loop .inv) h))
 
 loop-again : tie.Need-loop-again Inv-loop μ-loop
 loop-again c =
     let i = turn (c .before .before) in
     let p = start i .pre in
-    flooring-more _ _ _ _ _ _ (p .0) _ (p .1) _ _ _ _ (i .before .loop .inv) (i .loop-test .taken) _ _ _ refl (c .before .floor-of .ensures) (c .lesser .ensures)
+    flooring-more _ _ _ _ _ _ _ (p .0) _ (p .1) _ _ _ _ (i .before .loop .inv) (i .loop-test .taken) _ _ _ refl (c .before .floor-of .ensures) (c .lesser .ensures)
 
 returns : tie.Need-returns Inv-loop μ-loop
 unfolding caseOf
