@@ -13,12 +13,8 @@ use Rattle.paper.specs.Policies.{lruPolicy}
 use Rattle.paper.specs.Machines.{emptySet, lineOf, step}
 use Rattle.paper.specs.Traces.{Content, after, missAt, marks, total}
 use Rattle.paper.specs.AllWays.{missesWith}
+use Rattle.inclusion.specs.FoundLines.{foundAt}
 use Rattle.inclusion.proofs.FirstLines.{First, first-empty, first-step, first-hit}
-
--- the accesses that find their block in line j of eight ways
-unfoldable pub foundAt : ℕ → Content → List ℕ → ℕ → ℕ
-foundAt sets c [] j = 0
-foundAt sets c (b ∷ bs) j = bit (eqb (lineOf (c (b % sets) .lines) b) j) + foundAt sets (after lruPolicy 8 sets c b) bs j
 
 -- a sum to which 1 is added at line n
 sum-one : (n : ℕ) (f g : ℕ → ℕ) → ((j : ℕ) → g j ≡ bit (eqb n j) + f j) → (w : ℕ) → sumTo g w ≡ bit (ltb n w) + sumTo f w
@@ -68,7 +64,7 @@ module _ (sets w : ℕ) (low : 1 ≤ w) (high : w ≤ 8) where
         firsts-found (after lruPolicy 8 sets c b) (after lruPolicy w sets d b) (firsts-after c d b h) bs,
       )
 
-  -- "keep for each set the order of last use and count each access by how many other blocks of its set came since its last one"
+  -- so the misses are the accesses less those found
   pub ways-found : (bs : List ℕ) → missesWith sets bs w + sumTo (foundAt sets (λ q. emptySet) bs) w ≡ length bs
   unfolding missesWith
   ways-found bs = firsts-found (λ q. emptySet) (λ q. emptySet) (λ q. first-empty w low high) bs
