@@ -3,12 +3,10 @@ use libc::STDERR_FILENO;
 use libc::STDIN_FILENO;
 use libc::STDOUT_FILENO;
 
-// One byte more than is allowed shows that the input is longer.
-fn main() {
-    let mut input = [0u8; 2097155];
+fn answer(input: &mut [u8]) {
     let mut out = [0u8; waylines::LONGEST];
-    let n = io::read_full(STDIN_FILENO, &mut input);
-    if n < 2097155 {
+    let n = io::read_full(STDIN_FILENO, input);
+    if n < input.len() {
         if !ended() {
             io::write_all(
                 STDERR_FILENO,
@@ -17,7 +15,7 @@ fn main() {
             return;
         }
     }
-    let r = waylines::ways(&input[..n], &mut out);
+    let r = waylines::ways(&input[0..n], &mut out);
     if !io::write_all(STDOUT_FILENO, &out[0..r]) {
         io::write_all(STDERR_FILENO, b"ways: the output cannot be written\n");
     }
@@ -27,4 +25,15 @@ fn main() {
 fn ended() -> bool {
     let mut more = [0u8; 1];
     libc::read(STDIN_FILENO, &mut more) == 0
+}
+
+// The room is lent on as a list.
+fn with_room(input: &mut [u8; 2097155]) {
+    answer(input);
+}
+
+// One byte more than is allowed shows that the input is longer.
+fn main() {
+    let mut input = [0u8; 2097155];
+    with_room(&mut input);
 }
