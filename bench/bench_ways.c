@@ -24,7 +24,7 @@ int main(int argc, char **argv)
     size_t accesses = strtoul(argv[3], NULL, 10);
     uint16_t *blocks = malloc(2 * accesses);
     uint64_t counts[8] = {0}, place = 0;
-    make_blocks(blocks, accesses, 8 * sets);
+    make_blocks(blocks, accesses, sets > 0 ? 8 * sets : 8);
     if (strcmp(argv[1], "plain") == 0)
         refused = plain_all_ways(sets, blocks, accesses, counts, &place);
     else if (strcmp(argv[1], "proved") == 0)
