@@ -25,3 +25,5 @@ uint8_t plain_find(const uint8_t *file, size_t file_length, uint16_t scope, uint
 
 uint8_t plain_salvage(const uint8_t *file, size_t file_length, uint8_t *out, size_t out_length, uint64_t *dropped, size_t dropped_length,
                       uint64_t *length, uint64_t *count, uint64_t *place);
+
+uint8_t plain_all_ways(uint8_t sets, const uint16_t *blocks, size_t blocks_length, uint64_t counts[8], uint64_t *place);

@@ -124,6 +124,15 @@ uint8_t bolgverk_block_of(uint32_t address, uint32_t line_size, uint16_t *block)
  * Returns 0, or the refusal's number: 3 where sets is not 1 to 64, 21 for block 65,535, tested in this order. Its place is 0. */
 uint8_t bolgverk_set_of(uint16_t block, uint8_t sets, uint8_t *set);
 
+/* What LRU would miss with one way, two ways and so on up to eight, in one pass over a trace of block accesses from empty sets: the misses of eight calls of
+ * bolgverk_trace_run with policy 0.
+ *   sets                     the number of sets
+ *   blocks, blocks_length    the accesses in order; only read
+ *   counts                   gets eight numbers, if nothing is refused: counts[w - 1] the misses with w ways, none larger than the one before it
+ *   place                    gets the refusal's place, 0 if nothing is refused; always written
+ * Returns 0, or the refusal's number: 3 where sets is not 1 to 64, 21 for block 65,535, tested in this order. */
+uint8_t bolgverk_all_ways(uint8_t sets, const uint16_t *blocks, size_t blocks_length, uint64_t counts[8], uint64_t *place);
+
 /* The refusals, in README.md's words: number, what is wrong, the place, the second place. The least places where it holds are given; of 17, 24 and 25,
  * which stand together before 18, the least edge decides.
  *    1  the file has fewer than 32 bytes                                                                     0              0

@@ -3,7 +3,7 @@
 mod options;
 
 use options::{Options, USAGE};
-use second::compare::{bounds, caches, evidence, files, finds, frames, salvages, walks, writes};
+use second::compare::{bounds, caches, evidence, files, finds, frames, salvages, walks, ways, writes};
 use second::must_break;
 use std::process::ExitCode;
 use std::time::Instant;
@@ -14,7 +14,19 @@ fn main() -> ExitCode {
         Ok(_) => return usage("no part is named"),
         Err(fault) => return usage(&fault),
     };
-    let all = ["caches", "frames", "files", "writes", "bounds", "evidence", "finds", "salvages", "walks", "must-break"];
+    let all = [
+        "caches",
+        "frames",
+        "files",
+        "writes",
+        "bounds",
+        "evidence",
+        "finds",
+        "salvages",
+        "ways",
+        "walks",
+        "must-break",
+    ];
     let named = options.parts.iter().map(String::as_str);
     let parts: Vec<&str> = named.flat_map(|part| if part == "all" { all.to_vec() } else { vec![part] }).collect();
     for part in parts {
@@ -50,6 +62,7 @@ fn run(part: &str, options: &Options) -> Result<(), Failure> {
         "evidence" => evidence::run(pipe()?, settings),
         "finds" => finds::run(pipe()?, settings),
         "salvages" => salvages::run(pipe()?, settings),
+        "ways" => ways::run(pipe()?, settings),
         "walks" => walks::run(pipe()?, settings),
         "must-break" => must_break::run(options.pipe.as_ref()),
         "search" => must_break::search(settings),

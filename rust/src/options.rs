@@ -17,6 +17,7 @@ parts:
   evidence    evidence exists exactly when it should
   finds       facts that are found in graphs without them: limits and rows, and refusals
   salvages    files with several bad facts, cut ones and strays: what is left of them, what is dropped, and refusals
+  ways        all ways in one pass: the eight counts beside eight trace runs, and refusals
   walks       no walk through an accepted file, interrupted at most p times, misses more than its bounds for p say
   must-break  wrong bounds, each with a file, a walk and a content that exceed it, and wrong salvages (`pipe` may be left out)
   search      looks for such files anew, with random walks (needs no `pipe`)
@@ -38,6 +39,7 @@ options:
   --written N   contents that are written (10000)
   --searched N  small graphs that facts are found in (1000)
   --salvaged N  files that are salvaged (4000)
+  --counted N   traces that are counted for all ways (2000)
 ";
 
 pub struct Options {
@@ -59,6 +61,7 @@ pub fn read(arguments: impl Iterator<Item = String>) -> Result<Options, String> 
         written: 10_000,
         searched: 1_000,
         salvaged: 4_000,
+        counted: 2_000,
         library: None,
     };
     let mut options = Options { settings, pipe: None, bounds: None, parts: Vec::new() };
@@ -102,6 +105,7 @@ impl Options {
             "--written" => self.settings.written = number,
             "--searched" => self.settings.searched = number,
             "--salvaged" => self.settings.salvaged = number,
+            "--counted" => self.settings.counted = number,
             _ => return Err(format!("no option {option}")),
         }
         Ok(())

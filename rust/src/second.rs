@@ -1,7 +1,7 @@
 //! The second simulator's answer to any request of `pipe`.
 
 use crate::case::{check, find, salvage, write, Paper};
-use crate::machine::{address, step, trace, Outcome};
+use crate::machine::{address, step, trace, ways, Outcome};
 use crate::pipe::{Answer, Body, Request};
 use crate::refusal::Refusal;
 
@@ -52,6 +52,10 @@ pub fn answer(request: &Request) -> Answer {
                 out: after,
                 dropped: list,
             })
+        }
+        Request::Ways { sets, blocks } => {
+            let refused = Body::Ways { counts: vec![0; 8] };
+            outcome(ways::all_ways(*sets, blocks), refused, |counts| Body::Ways { counts: counts.to_vec() })
         }
     }
 }

@@ -2,3 +2,4 @@ pub mod Asking
 pub mod AskingWrites
 pub mod AskingFinds
 pub mod AskingSalvages
+pub mod AskingWays

@@ -6,6 +6,7 @@ pub mod salvages;
 pub mod sets;
 pub mod steps;
 pub mod traces;
+pub mod ways;
 pub mod writes;
 
 use frames::places;
@@ -56,6 +57,7 @@ pub fn argument_bytes(operation: u8) -> usize
         6 => places::WRITE_SIZE,
         7 => places::FIND_SIZE,
         8 => places::SALVAGE_SIZE,
+        9 => places::WAYS_SIZE,
         _ => 0,
     }
 }

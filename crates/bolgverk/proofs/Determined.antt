@@ -15,15 +15,17 @@ use Rattle.paper.specs.declared.Verdict.{Verdict}
 use Rattle.paper.specs.declared.WriteAnswer.{WriteAnswer}
 use Rattle.paper.specs.declared.FindAnswer.{FindAnswer}
 use Rattle.paper.specs.declared.SalvageAnswer.{SalvageAnswer}
+use Rattle.paper.specs.declared.WaysAnswer.{WaysAnswer}
 use Rattle.paper.specs.Operations.{stepAnswer, blockAnswer, setAnswer}
 use Rattle.paper.specs.Traces.{traceRun}
 use Rattle.paper.specs.Verdicts.{verdict, lentAfter}
 use Rattle.paper.specs.Writing.{writeVerdict, writeAnswer}
 use Rattle.paper.specs.Salvaging.{salvageVerdict, salvageAnswer}
+use Rattle.paper.specs.AllWays.{allWays}
 use Rattle.lists.specs.Listings.{offered}
-use Rattle.paper.proofs.AnswerLaws.{same-verdict, same-trace, same-outcome, same-block, same-set, same-write, same-find, same-salvage}
+use Rattle.paper.proofs.AnswerLaws.{same-verdict, same-trace, same-outcome, same-block, same-set, same-write, same-find, same-salvage, same-ways}
 use Rattle.theory.proofs.FoundOnce.{outcome-once}
-use Rattle.bolgverk.specs.Promises.{StepPromise, BlockPromise, SetPromise, TracePromise, CheckPromise, WritePromise, FindPromise, SalvagePromise}
+use Rattle.bolgverk.specs.Promises.{StepPromise, BlockPromise, SetPromise, TracePromise, CheckPromise, WritePromise, FindPromise, SalvagePromise, WaysPromise}
 
 answer-of : (r r′ : StepAnswer) → r .state ≡ r′ .state → r .outcome ≡ r′ .outcome → r ≡ r′
 answer-of r r′ s o =
@@ -96,3 +98,10 @@ module _ (file out list : List ℕ) where
       (r ≡ r′) × (after ≡ after′) × (listAfter ≡ listAfter′)
   salvage-determined r r′ after after′ listAfter listAfter′ p q =
       (salvage-answer r after listAfter p ∙ sym (salvage-answer r′ after′ listAfter′ q), p .bytes ∙ sym (q .bytes), p .dropped ∙ sym (q .dropped))
+
+module _ (sets : ℕ) (blocks : List ℕ) where
+  pub ways-answer : (r : WaysAnswer) → WaysPromise sets blocks r → r ≡ allWays sets blocks
+  ways-answer r p = same-ways _ _ (p .told) (p .counts)
+
+  pub ways-determined : (r r′ : WaysAnswer) → WaysPromise sets blocks r → WaysPromise sets blocks r′ → r ≡ r′
+  ways-determined r r′ p q = ways-answer r p ∙ sym (ways-answer r′ q)

@@ -1,9 +1,9 @@
 -- What each public operation promises: a relation between what it is handed and what comes out, lent memory included.
 -- An answer is promised by what it tells, the paper's number, place and values (Answers): that determines it (crates/bolgverk/proofs/Determined.antt).
-use Prim.Native.Nat.{ℕ}
+use Prim.Native.Nat.{ℕ, suc, _<_, _≤_}
 use mathlib.Core.Path.{_≡_}
 use mathlib.Core.List.{List}
-use lib.ListN.{length}
+use lib.ListN.{length, getD}
 use Rattle.paper.specs.declared.SetState.{SetState}
 use Rattle.paper.specs.declared.Address.{Address}
 use Rattle.paper.specs.declared.Block.{Block}
@@ -15,8 +15,9 @@ use Rattle.paper.specs.declared.Verdict.{Verdict}
 use Rattle.paper.specs.declared.WriteAnswer.{WriteAnswer}
 use Rattle.paper.specs.declared.FindAnswer.{FindAnswer}
 use Rattle.paper.specs.declared.SalvageAnswer.{SalvageAnswer}
+use Rattle.paper.specs.declared.WaysAnswer.{WaysAnswer}
 use Rattle.paper.specs.declared.Verdict.the-variants.{Accepted}
-use Rattle.paper.specs.Answers.{toldVerdict, toldTrace, toldOutcome, toldBlock, toldSet, toldWrite, toldFind, toldSalvage}
+use Rattle.paper.specs.Answers.{toldVerdict, toldTrace, toldOutcome, toldBlock, toldSet, toldWrite, toldFind, toldSalvage, toldWays}
 use Rattle.paper.specs.Operations.{stepAnswer, blockAnswer, setAnswer}
 use Rattle.paper.specs.Traces.{traceRun}
 use Rattle.paper.specs.Files.{readCase}
@@ -25,6 +26,8 @@ use Rattle.paper.specs.Demands.{Holds, EvidenceExact}
 use Rattle.paper.specs.Writing.{writeVerdict, writeAnswer, outAfter, ReadsBack, WritesBack}
 use Rattle.paper.specs.Finding.{FindOutcome}
 use Rattle.paper.specs.Salvaging.{salvaged, droppedList, salvageVerdict, salvageAnswer, lentBy, SalvageHolds, RemovalHolds}
+use Rattle.paper.specs.Policies.{lruPolicy}
+use Rattle.paper.specs.AllWays.{allWays, said}
 use Rattle.lists.specs.Listings.{offered}
 
 -- A step's answer is a state and an outcome.
@@ -75,3 +78,10 @@ pub record SalvagePromise (file out list : List ℕ) (r : SalvageAnswer) (after 
   pub dropped : listAfter ≡ lentBy (droppedList file) list (salvageVerdict file (length out) (length list))
   pub holds : SalvageHolds file
   pub removal : RemovalHolds file
+
+-- "They are proved equal to eight LRU trace runs from empty sets" (`runs`, whatever bytes these are lent, if there are enough), "and no count is larger than that for one way less" (`falls`). A refusal has zeros.
+pub record WaysPromise (sets : ℕ) (blocks : List ℕ) (r : WaysAnswer) : Type 0 where
+  pub told : toldWays r ≡ toldWays (allWays sets blocks)
+  pub counts : r .counts ≡ allWays sets blocks .counts
+  pub runs : (j : ℕ) → j < 8 → (lent : List ℕ) → length blocks ≤ length lent → said r j ≡ traceRun lruPolicy (suc j) sets blocks lent .answer
+  pub falls : (j : ℕ) → suc j < 8 → getD (r .counts) (suc j) 0 ≤ getD (r .counts) j 0

@@ -1,5 +1,5 @@
 // The public face of Bolgverk: every public operation, each thin, with its whole promise. Each takes every input.
-ghost use Rattle.bolgverk.specs.Promises.{StepPromise, BlockPromise, SetPromise, TracePromise, CheckPromise, WritePromise, FindPromise, SalvagePromise};
+ghost use Rattle.bolgverk.specs.Promises.{StepPromise, BlockPromise, SetPromise, TracePromise, CheckPromise, WritePromise, FindPromise, SalvagePromise, WaysPromise};
 use layout::Layout;
 use paper::Address;
 use paper::Block;
@@ -12,6 +12,7 @@ use paper::SetState;
 use paper::StepAnswer;
 use paper::TraceAnswer;
 use paper::Verdict;
+use paper::WaysAnswer;
 use paper::WriteAnswer;
 
 // "A single step takes a policy, k, any set state and any block (no S; the block's set isn't looked at)"
@@ -98,4 +99,11 @@ pub fn salvage(file: &[u8], out: &mut [u8], dropped: &mut [u64]) -> SalvageAnswe
     ensures { λ r. ⌜ SalvagePromise (now (file .entry)) (now (out .entry)) (now (dropped .entry)) r (now (out .exit)) (now (dropped .exit)) ⌝ }
 {
     salvager::salvage(file, out, dropped)
+}
+
+// "what LRU would miss with one way, two ways and so on up to eight": count w - 1 is that of w ways.
+pub fn all_ways(sets: u8, blocks: &[u16]) -> WaysAnswer
+    ensures { λ r. ⌜ WaysPromise sets (now (blocks .entry)) r ⌝ }
+{
+    onepass::all_ways(sets, blocks)
 }

@@ -14,12 +14,13 @@ use Rattle.paper.specs.declared.SetAnswer.{SetAnswer}
 use Rattle.paper.specs.declared.WriteAnswer.{WriteAnswer}
 use Rattle.paper.specs.declared.FindAnswer.{FindAnswer}
 use Rattle.paper.specs.declared.SalvageAnswer.{SalvageAnswer}
-use Rattle.paper.specs.Answers.{Told, toldVerdict, toldTrace, toldOutcome, toldBlock, toldSet, toldWrite, toldFind, toldSalvage, valueOr, limitOr, secondOr}
+use Rattle.paper.specs.declared.WaysAnswer.{WaysAnswer}
+use Rattle.paper.specs.Answers.{Told, toldVerdict, toldTrace, toldOutcome, toldBlock, toldSet, toldWrite, toldFind, toldSalvage, toldWays, valueOr, limitOr, secondOr, countsOr}
 use Rattle.paper.specs.Writing.{FileContent}
 use Rattle.paper.specs.Finding.{FindOutcome, refused, nothing, found}
-use Rattle.paper.proofs.RefusalLaws.{verdict-numbered, trace-numbered, step-numbered, block-numbered, set-numbered, write-numbered, find-numbered, salvage-numbered}
-use Rattle.bolgverk.specs.Promises.{StepPromise, BlockPromise, SetPromise, TracePromise, CheckPromise, WritePromise, FindPromise, SalvagePromise}
-use Rattle.exports.specs.Calls.{CheckCall, WriteCall, FindCall, SalvageCall, TraceCall, StepCall, BlockCall, SetCall}
+use Rattle.paper.proofs.RefusalLaws.{verdict-numbered, trace-numbered, step-numbered, block-numbered, set-numbered, write-numbered, find-numbered, salvage-numbered, ways-numbered}
+use Rattle.bolgverk.specs.Promises.{StepPromise, BlockPromise, SetPromise, TracePromise, CheckPromise, WritePromise, FindPromise, SalvagePromise, WaysPromise}
+use Rattle.exports.specs.Calls.{CheckCall, WriteCall, FindCall, SalvageCall, TraceCall, StepCall, BlockCall, SetCall, WaysCall}
 
 -- an answer that tells what the paper's does
 refused-as : (low : ℕ) (t t′ : Told) → t ≡ t′ → (t′ .values ≡ none → low ≤ t′ .number) → t .values ≡ none → low ≤ t .number
@@ -111,3 +112,9 @@ module _ (block sets before r after : ℕ) where
   set-call v p n s =
       let k = refused-as 1 _ _ (p .told) (set-numbered (record { 0 = block }) sets .refused) in
       record { answer = v; promise = p; number = n; set = s; refused = λ h. number-as 1 r _ n (k h) }
+
+module _ (sets : ℕ) (blocks before : List ℕ) (r at : ℕ) (after : List ℕ) where
+  pub ways-call : (v : WaysAnswer) → WaysPromise sets blocks v → r ≡ toldWays v .number → after ≡ countsOr before (toldWays v) → at ≡ toldWays v .place → WaysCall sets blocks before r at after
+  ways-call v p n c a =
+      let k = refused-as 1 _ _ (p .told) (ways-numbered sets blocks .refused) in
+      record { answer = v; promise = p; number = n; counts = c; place = a; refused = λ h. number-as 1 r _ n (k h) }

@@ -10,9 +10,10 @@ use Rattle.paper.specs.declared.SetAnswer.{SetAnswer}
 use Rattle.paper.specs.declared.WriteAnswer.{WriteAnswer}
 use Rattle.paper.specs.declared.FindAnswer.{FindAnswer}
 use Rattle.paper.specs.declared.SalvageAnswer.{SalvageAnswer}
-use Rattle.paper.specs.Answers.{toldVerdict, toldTrace, toldOutcome, toldBlock, toldSet, toldWrite, toldFind, toldSalvage, valueOr, limitOr, secondOr}
-use Rattle.bolgverk.proofs.Determined.{step-determined, block-determined, set-determined, trace-determined, check-determined, write-determined, find-determined, salvage-determined}
-use Rattle.exports.specs.Calls.{CheckCall, WriteCall, FindCall, SalvageCall, TraceCall, StepCall, BlockCall, SetCall}
+use Rattle.paper.specs.declared.WaysAnswer.{WaysAnswer}
+use Rattle.paper.specs.Answers.{toldVerdict, toldTrace, toldOutcome, toldBlock, toldSet, toldWrite, toldFind, toldSalvage, toldWays, valueOr, limitOr, secondOr, countsOr}
+use Rattle.bolgverk.proofs.Determined.{step-determined, block-determined, set-determined, trace-determined, check-determined, write-determined, find-determined, salvage-determined, ways-determined}
+use Rattle.exports.specs.Calls.{CheckCall, WriteCall, FindCall, SalvageCall, TraceCall, StepCall, BlockCall, SetCall, WaysCall}
 
 -- two results that are the same function of answers that are the same
 same : {A B : Type 0} (f : A → B) {v v′ : A} {x x′ : B} → v ≡ v′ → x ≡ f v → x′ ≡ f v′ → x ≡ x′
@@ -98,3 +99,12 @@ module _ (block sets before r r′ after after′ : ℕ) where
   set-call-determined p q =
       let e = set-determined _ sets _ _ (p .promise) (q .promise) in
       (same (λ (v : SetAnswer). toldSet v .number) e (p .number) (q .number), same (λ (v : SetAnswer). valueOr before (toldSet v)) e (p .set) (q .set))
+
+module _ (sets : ℕ) (blocks before : List ℕ) (r r′ at at′ : ℕ) (after after′ : List ℕ) where
+  pub ways-call-determined : WaysCall sets blocks before r at after → WaysCall sets blocks before r′ at′ after′ → (r ≡ r′) × (at ≡ at′) × (after ≡ after′)
+  ways-call-determined p q =
+      let e = ways-determined sets blocks _ _ (p .promise) (q .promise) in (
+        same (λ (v : WaysAnswer). toldWays v .number) e (p .number) (q .number),
+        same (λ (v : WaysAnswer). toldWays v .place) e (p .place) (q .place),
+        same (λ (v : WaysAnswer). countsOr before (toldWays v)) e (p .counts) (q .counts),
+      )

@@ -13,10 +13,11 @@ use Rattle.paper.specs.declared.SetAnswer.{SetAnswer}
 use Rattle.paper.specs.declared.WriteAnswer.{WriteAnswer}
 use Rattle.paper.specs.declared.FindAnswer.{FindAnswer}
 use Rattle.paper.specs.declared.SalvageAnswer.{SalvageAnswer}
-use Rattle.paper.specs.Answers.{toldVerdict, toldTrace, toldOutcome, toldBlock, toldSet, toldWrite, toldFind, toldSalvage, valueOr, limitOr, secondOr}
+use Rattle.paper.specs.declared.WaysAnswer.{WaysAnswer}
+use Rattle.paper.specs.Answers.{toldVerdict, toldTrace, toldOutcome, toldBlock, toldSet, toldWrite, toldFind, toldSalvage, toldWays, valueOr, limitOr, secondOr, countsOr}
 use Rattle.paper.specs.Files.{readCase}
 use Rattle.paper.specs.Demands.{Holds}
-use Rattle.bolgverk.specs.Promises.{StepPromise, BlockPromise, SetPromise, TracePromise, CheckPromise, WritePromise, FindPromise, SalvagePromise}
+use Rattle.bolgverk.specs.Promises.{StepPromise, BlockPromise, SetPromise, TracePromise, CheckPromise, WritePromise, FindPromise, SalvagePromise, WaysPromise}
 
 -- The refusal's number, or 0; its places, or 0; the lent numbers afterwards. `holds`: demand 3's bounds, where 0 is returned; its other half is in the promise.
 pub record CheckCall (file : List ℕ) (interruptions : ℕ) (lent : List ℕ) (r at within : ℕ) (after : List ℕ) : Type 0 where
@@ -87,3 +88,12 @@ pub record SetCall (block sets before r after : ℕ) : Type 0 where
   pub number : r ≡ toldSet answer .number
   pub set : after ≡ valueOr before (toldSet answer)
   pub refused : toldSet answer .values ≡ none → 1 ≤ r
+
+-- The refusal's number, or 0; its place, or 0; the eight counts afterwards.
+pub record WaysCall (sets : ℕ) (blocks before : List ℕ) (r at : ℕ) (after : List ℕ) : Type 0 where
+  pub answer : WaysAnswer
+  pub promise : WaysPromise sets blocks answer
+  pub number : r ≡ toldWays answer .number
+  pub counts : after ≡ countsOr before (toldWays answer)
+  pub place : at ≡ toldWays answer .place
+  pub refused : toldWays answer .values ≡ none → 1 ≤ r

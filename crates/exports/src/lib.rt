@@ -1,6 +1,6 @@
 // The public operations under C names. include/bolgverk.h says the same to a C compiler.
 // A slice passes as a pointer and a length, a number to be written as a pointer. No function has a `requires`.
-ghost use Rattle.exports.specs.Calls.{CheckCall, WriteCall, FindCall, SalvageCall, TraceCall, StepCall, BlockCall, SetCall};
+ghost use Rattle.exports.specs.Calls.{CheckCall, WriteCall, FindCall, SalvageCall, TraceCall, StepCall, BlockCall, SetCall, WaysCall};
 use paper::Address;
 use paper::Block;
 use paper::SetState;
@@ -138,4 +138,17 @@ pub extern "C" fn bolgverk_set_of(block: u16, sets: u8, set: &mut u8) -> u8
     ensures { λ r. ⌜ SetCall block sets (now (set .entry)) r (now (set .exit)) ⌝ }
 {
     telling::set_of(bolgverk::set_of(Block(block), sets), set)
+}
+
+// The refusal's number, or 0; `place` gets the refusal's place, or 0; `counts` get the misses with one way to eight, where nothing is refused.
+#[no_mangle]
+pub extern "C" fn bolgverk_all_ways(
+    sets: u8,
+    blocks: &[u16],
+    counts: &mut [u64; 8],
+    place: &mut u64,
+) -> u8
+    ensures { λ r. ⌜ WaysCall sets (now (blocks .entry)) (now (counts .entry)) r (now (place .exit)) (now (counts .exit)) ⌝ }
+{
+    telling::all_ways(bolgverk::all_ways(sets, blocks), counts, place)
 }

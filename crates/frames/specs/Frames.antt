@@ -21,6 +21,7 @@ use Rattle.paper.specs.declared.FindAnswer.{FindAnswer}
 use Rattle.paper.specs.declared.FindAnswer.the-variants as FindAnswers
 use Rattle.paper.specs.declared.SalvageAnswer.{SalvageAnswer}
 use Rattle.paper.specs.declared.SalvageAnswer.the-variants as SalvageAnswers
+use Rattle.paper.specs.declared.WaysAnswer.{WaysAnswer}
 use Rattle.paper.specs.declared.Verdict.{Verdict}
 use Rattle.paper.specs.declared.Verdict.the-variants as Verdicts
 use Rattle.paper.specs.Answers.{refuse, toldFind}
@@ -32,6 +33,7 @@ use Rattle.paper.specs.Verdicts.{verdict, lentAfter}
 use Rattle.paper.specs.Writing.{FileContent, writeVerdict, writeAnswer, outAfter}
 use Rattle.paper.specs.Finding.{FindOutcome}
 use Rattle.paper.specs.Salvaging.{salvaged, droppedList, salvageVerdict, salvageAnswer, lentBy}
+use Rattle.paper.specs.AllWays.{allWays}
 use Rattle.frames.specs.declared.Head.{Head}
 use Rattle.frames.specs.declared.SalvageHead.{SalvageHead}
 use Rattle.frames.specs.Little.{little, littles, u16s, u32s, u64s}
@@ -262,7 +264,8 @@ argumentBytes operation =
     (cond (eqb operation 4) (sizeOf Places.traceFields)
     (cond (eqb operation 5) (sizeOf Places.checkFields)
     (cond (eqb operation 6) (sizeOf Places.writeFields)
-    (cond (eqb operation 7) (sizeOf Places.findFields) (cond (eqb operation 8) (sizeOf Places.salvageFields) 0)))))))
+    (cond (eqb operation 7) (sizeOf Places.findFields)
+    (cond (eqb operation 8) (sizeOf Places.salvageFields) (cond (eqb operation 9) (sizeOf Places.waysFields) 0))))))))
 
 -- "the byte 0, then one byte that says why, then the number of frames answered before it, u64"
 unfoldable pub lastFrame : ℕ → ℕ → List ℕ
@@ -279,3 +282,14 @@ pub record FindAnswered (r lent : List ℕ) (at : ℕ) (left : List ℕ) : Type 
   pub rows : List ℕ
   pub asked : FindAsked r lent answer rows
   pub answered : Answered (findFrame answer rows) at left
+
+-- "sets u8, accesses n u32, then n blocks u16 each"
+unfoldable pub waysAsked : List ℕ → List ℕ → WaysAnswer
+waysAsked r lent = allWays (u8At r 0) (u16s lent (u32At r Places.waysAccesses))
+
+abbrev pub waysOf : Verdict → List ℕ → WaysAnswer
+waysOf v counts = record { counts = counts; verdict = v }
+
+-- "eight counts u64 each (refused: 0)": after a head that has no value, as a check's
+unfoldable pub waysFrame : WaysAnswer → List ℕ
+waysFrame a = front 9 0 (checkHead (a .verdict)) ++ littles 8 (a .counts)

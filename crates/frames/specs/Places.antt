@@ -157,3 +157,14 @@ salvageNumbers = offset salvageFields 2
 -- A writer's arguments take most.
 abbrev pub argumentsRoom : ℕ
 argumentsRoom = sizeOf writeFields
+
+-- "sets u8, accesses n u32"
+abbrev pub waysFields : List ℕ
+waysFields = bits8 ∷ bits32 ∷ []
+
+abbrev pub waysAccesses : ℕ
+waysAccesses = offset waysFields 1
+
+-- "eight counts u64 each": the answer that has them is longer than what stands before lent memory, and has bytes of its own
+abbrev pub countsSize : ℕ
+countsSize = headSize + 8 * bits64

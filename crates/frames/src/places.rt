@@ -108,3 +108,10 @@ pub const FIND_NUMBERS: usize = 8;
 pub const SALVAGE_OUT: usize = 4;
 
 pub const SALVAGE_NUMBERS: usize = 8;
+
+// All ways in one pass: its answer, eight counts after the head, has bytes of its own.
+pub const WAYS_SIZE: usize = 5;
+
+pub const WAYS_ACCESSES: usize = 1;
+
+pub const COUNTS_SIZE: usize = HEAD_SIZE + 64;

@@ -9,7 +9,7 @@ use Rattle.listing.specs.Listed.{after, numberLines}
 use Rattle.print.proofs.Lengths.{short, line-length, line-of-two-length}
 
 -- the digits of the numbers from i on, n of them
-unfoldable widths : ℕ → ℕ → ℕ
+unfoldable pub widths : ℕ → ℕ → ℕ
 widths i zero = 0
 widths i (suc n) = length (decimal i) + widths (suc i) n
 
@@ -28,7 +28,7 @@ unfolding widths decimal decimalIn
 widths-256 = refl
 
 module _ (word : List ℕ) (g : ℕ → ℕ) (small : (i : ℕ) → g i < 2 ^ 64) where
-  lines-length : (i n : ℕ) → length (linesFrom word g i n) ≤ n * (length word + 22) + widths i n
+  pub lines-length : (i n : ℕ) → length (linesFrom word g i n) ≤ n * (length word + 22) + widths i n
   unfolding linesFrom widths
   lines-length i zero = omega arith
   lines-length i (suc n) =

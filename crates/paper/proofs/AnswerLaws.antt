@@ -20,7 +20,8 @@ use Rattle.paper.specs.declared.FindAnswer.{FindAnswer}
 use Rattle.paper.specs.declared.FindAnswer.the-variants as FindAnswers
 use Rattle.paper.specs.declared.SalvageAnswer.{SalvageAnswer}
 use Rattle.paper.specs.declared.SalvageAnswer.the-variants as SalvageAnswers
-use Rattle.paper.specs.Answers.{refuseAt, Told, toldVerdict, toldTrace, toldOutcome, toldBlock, toldSet, toldWrite, toldFind, toldSalvage}
+use Rattle.paper.specs.declared.WaysAnswer.{WaysAnswer}
+use Rattle.paper.specs.Answers.{refuseAt, Told, toldVerdict, toldTrace, toldOutcome, toldBlock, toldSet, toldWrite, toldFind, toldSalvage, toldCounts, toldWays}
 
 -- answers that tell the same are the same, where each is got back
 same-by : {A : Type 0} (answer : Told → A) (told : A → Told) → ((r : A) → answer (told r) ≡ r) → (r r′ : A) → told r ≡ told r′ → r ≡ r′
@@ -119,3 +120,15 @@ same-find = same _ _ _ toldFind find-back
 
 pub same-salvage : (v v′ : SalvageAnswer) → toldSalvage v ≡ toldSalvage v′ → v ≡ v′
 same-salvage = same-by salvageAnswer toldSalvage salvage-back
+
+-- eight counts, which a refusal does not tell
+ways-back : (v : Verdict) (counts : List ℕ) → answer Verdicts.Refused Verdicts.Accepted (λ n. Verdicts.Accepted) (toldCounts v counts) ≡ v
+ways-back Verdicts.Accepted [] = refl
+ways-back Verdicts.Accepted (n ∷ rest) = refl
+ways-back (Verdicts.Refused r) counts = refl
+
+pub same-ways : (v v′ : WaysAnswer) → toldWays v ≡ toldWays v′ → v .counts ≡ v′ .counts → v ≡ v′
+same-ways v v′ e c =
+    let f : v .verdict ≡ v′ .verdict =
+    sym (ways-back (v .verdict) (v .counts)) ∙ ap (answer Verdicts.Refused Verdicts.Accepted (λ n. Verdicts.Accepted)) e ∙ ways-back (v′ .verdict) (v′ .counts) in
+    λ t. record { counts = c t; verdict = f t }

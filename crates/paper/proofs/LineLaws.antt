@@ -162,7 +162,7 @@ pub weight-bit : (j : ℕ) → j < 8 → (0 < weightOf j) × (255 - weightOf j �
 unfolding weightOf
 weight-bit j h = let p = pow-mono {i = j} {j = 7} (omega arith) in (omega arith, omega arith)
 
-weight-less : (i j : ℕ) → i < 8 → j < i → weightOf i < weightOf j
+pub weight-less : (i j : ℕ) → i < 8 → j < i → weightOf i < weightOf j
 unfolding weightOf
 weight-less i j h g = omega (arith, pow-lt {i = j} {j = i} g, pow-mono {i = i} {j = 7} (omega arith))
 

@@ -50,11 +50,11 @@ module _ (k : ℕ) (l : List ℕ) (n b w : ℕ) (r : Ready k l) (c : b ≢ none)
   fits : k ≤ length l
   fits = omega (arith, r .high)
 
-  found : lineOf l b < 8 → (w ≡ weightOf (lineOf l b)) × (lineOf l b < k)
+  pub found : lineOf l b < 8 → (w ≡ weightOf (lineOf l b)) × (lineOf l b < k)
   found h =
       (f ∙ weighed-walk l b e ∙ weighed-found 0 (lineOf l b) l b (says-true (says-distinct l) (r .apart)) c (omega arith) (omega arith), among k l b r c (omega arith))
 
-  none-found : 8 ≤ lineOf l b → w ≡ 0
+  pub none-found : 8 ≤ lineOf l b → w ≡ 0
   none-found h = f ∙ weighed-walk l b e ∙ weighed-none 0 l b (omega arith)
 
   hit-line : 0 < w → (w ≡ weightOf (lineOf l b)) × (lineOf l b < k)

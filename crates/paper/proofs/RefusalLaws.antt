@@ -19,7 +19,7 @@ use Rattle.paper.specs.declared.Verdict.the-variants.{Accepted, Refused}
 use Rattle.paper.specs.declared.Outcome.the-variants.{Hit, Miss}
 use Rattle.paper.specs.declared.BlockAnswer.the-variants as BlockAnswers
 use Rattle.paper.specs.declared.SetAnswer.the-variants as SetAnswers
-use Rattle.paper.specs.Answers.{refuseAt, refuse, tells, Told, toldVerdict, toldTrace, toldOutcome, toldBlock, toldSet, toldWrite, toldSalvage}
+use Rattle.paper.specs.Answers.{refuseAt, refuse, tells, Told, toldVerdict, toldTrace, toldOutcome, toldBlock, toldSet, toldWrite, toldSalvage, toldWays}
 use Rattle.paper.specs.Lists.{least, some}
 use Rattle.paper.specs.Machines.{emptySet, step, offered, setCount, legal, inRange}
 use Rattle.paper.specs.Operations.{refusedStep, stepAnswer, lineSize, blockAnswer, setAnswer}
@@ -34,6 +34,7 @@ use Rattle.paper.specs.Finding.{sought, rowsLength, soughtRules, findVer
 use Rattle.paper.specs.Records.{badVersion}
 use Rattle.paper.specs.Writing.{FileContent, trailerIn, caseIn, fileOf, contentRules, inTurn, badLists, badRowsNamed, writtenTurn, writtenFacts, listRules, writeVerdict, writeAnswer}
 use Rattle.paper.specs.Salvaging.{salvaged, droppedList, salvageVerdict, salvageAnswer}
+use Rattle.paper.specs.AllWays.{waysVerdict, waysCounts, allWays}
 
 -- the refusals that have a second place: 16, 17, 18, 24 and 25
 abbrev pub OfEvidence : ℕ → Type 0
@@ -223,3 +224,14 @@ set-numbered b sets =
     numbered 1 toldSet (not (setCount sets)) (SetAnswers.Refused (refuse 3 0)) (omega arith) refl
     (numbered 1 toldSet (eqb (b .0) 65535) (SetAnswers.Refused (refuse 21 0)) (omega arith) refl
     (plain 1 toldSet (SetAnswers.Found (record { 0 = b .0 % sets })) _ refl))
+
+-- all ways in one pass
+module _ (sets : ℕ) (blocks : List ℕ) where
+  counts-numbered : (v : Verdict) → Numbered 1 toldVerdict v → Numbered 1 toldWays (record { counts = waysCounts sets blocks v; verdict = v })
+  counts-numbered Accepted h = plain 1 toldWays (record { counts = waysCounts sets blocks Accepted; verdict = Accepted }) _ refl
+  counts-numbered (Refused r) h = record { refused = h .refused; second = h .second }
+
+  pub ways-numbered : Numbered 1 toldWays (allWays sets blocks)
+  unfolding allWays waysVerdict
+  ways-numbered =
+      counts-numbered _ (one 2 0 (not (setCount sets)) (one 20 _ (some (badAccess blocks) (length blocks)) (plain 1 toldVerdict Accepted [] refl)))

@@ -20,6 +20,7 @@ use Rattle.paper.specs.declared.FindAnswer.{FindAnswer}
 use Rattle.paper.specs.declared.FindAnswer.the-variants as FindAnswers
 use Rattle.paper.specs.declared.SalvageAnswer.{SalvageAnswer}
 use Rattle.paper.specs.declared.SalvageAnswer.the-variants as SalvageAnswers
+use Rattle.paper.specs.declared.WaysAnswer.{WaysAnswer}
 
 -- "The result gets a second place."
 abbrev pub refuseAt : ℕ → ℕ → ℕ → Refusal
@@ -108,3 +109,19 @@ secondOr before t = nextOr (t .values)
     nextOr (some []) = before
     nextOr (some (n ∷ [])) = before
     nextOr (some (n ∷ m ∷ rest)) = m
+
+-- "no count returned" of a refusal; else the eight counts
+abbrev pub toldCounts : Verdict → List ℕ → Told
+toldCounts Verdicts.Accepted counts = tells counts
+toldCounts (Verdicts.Refused r) counts = tellsWhy r
+
+abbrev pub toldWays : WaysAnswer → Told
+toldWays a = toldCounts (a .verdict) (a .counts)
+
+-- The values told, or `before` where something is refused: numbers that are written only where nothing is.
+abbrev pub countsOr : List ℕ → Told → List ℕ
+countsOr before t = allOr (t .values)
+  where
+    allOr : Option (List ℕ) → List ℕ
+    allOr none = before
+    allOr (some values) = values

@@ -31,3 +31,4 @@ pub mod NextBits
 pub mod Patterns
 pub mod Ready
 pub mod Shifts
+pub mod AllWays

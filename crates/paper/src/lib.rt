@@ -137,6 +137,12 @@ pub enum SalvageAnswer {
     Refused(Refusal),
 }
 
+// "One pass gives eight counts": the misses with one way, two ways and so on up to eight. A refusal has zeros.
+pub struct WaysAnswer {
+    pub counts: [u64; 8],
+    pub verdict: Verdict,
+}
+
 // "The loops are handed on as a list of records: first node, last node, bound"; and "a further 32-bit number W", how often a whole walk visits the header at most.
 pub struct Loop {
     pub first: u16,

@@ -2,6 +2,7 @@
 mod finds;
 mod requests;
 mod salvages;
+mod ways;
 mod writes;
 
 use answers::ACCESSES;
@@ -35,6 +36,7 @@ fn asked(
         6 => writes::write(request, bytes, blocks),
         7 => finds::find(request, bytes, blocks),
         8 => salvages::salvage(request, bytes, numbers),
+        9 => ways::all_ways(request, bytes, blocks),
         _ => Frame::Stopped(1),
     }
 }

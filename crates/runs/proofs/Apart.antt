@@ -1,5 +1,5 @@
 -- A run that holds the state of the last set apart, as those of LRU, NMRU and the tree do: what holds after i accesses, that it holds at first, when an access goes to a set, and after its step.
-use Prim.Native.Nat.{ℕ, _+_, _^_, _<_, _≤_}
+use Prim.Native.Nat.{ℕ, _+_, _%_, _^_, _<_, _≤_}
 use native.Mathlib.Decide.{ℕ-discrete}
 use native.Mathlib.Omega.{arith}
 use mathlib.Core.Path.{_≡_, refl, sym, ap, _∙_, subst}
@@ -14,12 +14,13 @@ use Rattle.paper.specs.Lists.{bit}
 use Rattle.paper.specs.Machines.{emptySet, legal, step, victim, missLine}
 use Rattle.paper.specs.Policies.{nmruPolicy}
 use Rattle.paper.specs.Ready.{Ready}
+use Rattle.paper.specs.Traces.{after}
 use Rattle.runs.specs.TraceRuns.{held, heldApart, noLines, Runs}
-use Rattle.runs.proofs.Going.{Going, Access, going-start, going-same, going-more, set-legal, set-ready, set-bits, set-by-bits}
+use Rattle.runs.proofs.Going.{same-content, Going, Access, going-start, going-same, going-more, set-legal, set-ready, set-bits, set-by-bits}
 use Rattle.runs.proofs.Held.{held-at, held-here, held-there, held-empty}
 
 module _ (l : List SetState) (at : ℕ) (s : SetState) where
-  apart-here : heldApart l at s at ≡ s
+  pub apart-here : heldApart l at s at ≡ s
   unfolding heldApart
   apart-here = rw (eq-eqb at at refl)
 
@@ -27,7 +28,7 @@ module _ (l : List SetState) (at : ℕ) (s : SetState) where
   unfolding heldApart
   apart-there q n = rw (ne-eqb q at n)
 
-apart-empty : (n at q : ℕ) → heldApart (replicate n emptySet) at emptySet q ≡ emptySet
+pub apart-empty : (n at q : ℕ) → heldApart (replicate n emptySet) at emptySet q ≡ emptySet
 apart-empty n at q =
     elim (ℕ-discrete q at) [
       | yes e ↦ subst (λ (x : ℕ). heldApart (replicate n emptySet) at emptySet x ≡ emptySet) (sym e) (apart-here (replicate n emptySet) at emptySet)
@@ -57,6 +58,28 @@ module _ (l : List SetState) (last at : ℕ) (s t : SetState) (low : last < leng
         | no f ↦ apart-there (set l last s) at t q f ∙ others q
       ]
 
+-- the same set again, or another in its place: all are held as before
+module _ (states : List SetState) (last : ℕ) (state : SetState) {l : List SetState} {now : ℕ} {s : SetState} where
+  pub stays-same : l ≡ states → s ≡ state → now ≡ last → (q : ℕ) → heldApart l now s q ≡ heldApart states last state q
+  stays-same f g h q = rw (f, g, h)
+
+  pub turns-same :
+      {at : ℕ} → last < length states → at < length states → (at ≡ last → ⊥) → l ≡ set states last state → s ≡ getD (set states last state) at noLines → now ≡ at
+      → (q : ℕ) → heldApart l now s q ≡ heldApart states last state q
+  turns-same {at} low fits n f g h q = rw (f, h) (as-before states last at state s low fits n g q)
+
+-- an access to the set that is held apart is one to the content
+module _ (p k sets b : ℕ) (l : List SetState) (at : ℕ) (s : SetState) (home : at ≡ b % sets) where
+  after-at : (q : ℕ) → Dec (q ≡ at) → heldApart l at (step p k s b .state) q ≡ after p k sets (heldApart l at s) b q
+  unfolding after
+  after-at q (yes e) =
+      rw (e, eq-eqb (b % sets) at (sym home))
+      (apart-here l at (step p k s b .state) ∙ ap (λ (x : SetState). step p k x b .state) (sym (apart-here l at s)))
+  after-at q (no f) = rw (ne-eqb (b % sets) q (λ e. f (sym e ∙ sym home))) (apart-other l at s (step p k s b .state) q f)
+
+  pub apart-after : heldApart l at (step p k s b .state) ≡ after p k sets (heldApart l at s) b
+  apart-after = same-content (λ q. after-at q (ℕ-discrete q at))
+
 -- after i accesses
 pub record Apart (p k sets : ℕ) (blocks lent out : List ℕ) (states : List SetState) (last : ℕ) (state : SetState) (misses i : ℕ) : Type 0 where
   pub going : Going p k sets blocks lent out (heldApart states last state) misses i
@@ -83,12 +106,12 @@ module _ {p k sets : ℕ} {blocks lent : List ℕ} (ok : Runs p k sets blocks le
           }
 
       pub stays : at ≡ last → l ≡ states → s ≡ state → now ≡ last → Turned p k sets blocks lent out l now s misses i
-      stays e f g h = turned (h ∙ sym e) (ap length f ∙ a .long) (λ q. rw (f, g, h))
+      stays e f g h = turned (h ∙ sym e) (ap length f ∙ a .long) (stays-same states last state f g h)
 
       pub turns : (at ≡ last → ⊥) → l ≡ set states last state → s ≡ getD (set states last state) at noLines → now ≡ at → Turned p k sets blocks lent out l now s misses i
       turns n f g h =
           turned h (ap length f ∙ length-set states last state ∙ a .long)
-          (λ q. rw (f, h) (as-before states last at state s (omega (arith, a .low, a .long)) (omega (arith, x .low, a .long)) n g q))
+          (turns-same states last state (omega (arith, a .low, a .long)) (omega (arith, x .low, a .long)) n f g h)
 
     module _ (u : Turned p k sets blocks lent out states last state misses i) where
       -- what a step asks for

@@ -7,9 +7,10 @@ use paper::SalvageAnswer;
 use paper::SetAnswer;
 use paper::TraceAnswer;
 use paper::Verdict;
+use paper::WaysAnswer;
 use paper::WriteAnswer;
 ghost use mathlib.Core.Path.{_≡_};
-ghost use Rattle.paper.specs.Answers.{toldVerdict, toldTrace, toldOutcome, toldBlock, toldSet, toldWrite, toldFind, toldSalvage, valueOr, limitOr, secondOr};
+ghost use Rattle.paper.specs.Answers.{toldVerdict, toldTrace, toldOutcome, toldBlock, toldSet, toldWrite, toldFind, toldSalvage, toldWays, valueOr, limitOr, secondOr, countsOr};
 
 pub fn check(answer: Verdict, place: &mut u64, second: &mut u64) -> u8
     ensures { λ r. ⌜ r ≡ toldVerdict answer .number ⌝ }
@@ -148,5 +149,26 @@ pub fn set_of(answer: SetAnswer, set: &mut u8) -> u8
             0
         }
         SetAnswer::Refused(why) => why.number,
+    }
+}
+
+// The eight counts, which stay as they were where something is refused.
+pub fn all_ways(answer: WaysAnswer, counts: &mut [u64; 8], place: &mut u64) -> u8
+    ensures { λ r. ⌜ r ≡ toldWays answer .number ⌝ }
+    ensures { λ _. ⌜ now (counts .exit) ≡ countsOr (now (counts .entry)) (toldWays answer) ⌝ }
+    ensures { λ _. ⌜ now (place .exit) ≡ toldWays answer .place ⌝ }
+{
+    let found = answer.counts;
+    let verdict = answer.verdict;
+    match verdict {
+        Verdict::Accepted => {
+            *counts = found;
+            *place = 0;
+            0
+        }
+        Verdict::Refused(wrong) => {
+            *place = wrong.place as u64;
+            wrong.number
+        }
     }
 }

@@ -36,7 +36,7 @@ fn passed_eights(blocks: &[u16]) -> usize
 }
 
 // The least access whose block is none; the number of accesses where there is none such.
-fn bad_access(blocks: &[u16]) -> usize
+pub fn bad_access(blocks: &[u16]) -> usize
     ensures { λ r. ⌜ r ≡ Lists.least (Traces.badAccess (now (blocks .entry))) (length (now (blocks .entry))) ⌝ }
 {
     let mut i = passed_eights(blocks);

@@ -28,6 +28,7 @@ fn small_frames() -> Vec<Request> {
         Request::Write { content: content([1, 2, 3, 4, 8]), out: vec![7; 50] },
         Request::Find { file: vec![81, 77, 66, 84, 3], scope: 1, block: 700, rows: vec![5; 3] },
         Request::Salvage { file: vec![81, 77, 66, 84, 3], out: vec![7; 4], dropped: vec![5; 2] },
+        Request::Ways { sets: 2, blocks: vec![1, 2, 1] },
     ]
 }
 
@@ -57,7 +58,7 @@ pub fn run(pipe: &Pipe, settings: &Settings) -> Result<(), String> {
             converse(pipe, &before(&mut random), &whole[..cut], &[CUT_SHORT])?;
         }
     }
-    for operation in [0, 9, 10, 127, 128, 255] {
+    for operation in [0, 10, 11, 127, 128, 255] {
         // What follows would be a good frame, but "after it nothing more is read".
         let mut bytes = vec![operation];
         bytes.extend(small_frames()[1].encode());
@@ -111,9 +112,17 @@ fn too_large() -> Vec<(Vec<u8>, &'static [u8])> {
         salvage(room::WRECK + 1, 0, 0),
         salvage(0, room::SALVAGED + 1, 0),
         salvage(0, 0, room::DROPPED + 1),
+        Request::Ways { sets: 1, blocks: vec![0; room::ACCESSES + 1] },
     ];
     let mut frames: Vec<(Vec<u8>, &[u8])> = whole.iter().map(|frame| (frame.encode(), &[TOO_LARGE][..])).collect();
-    let heads = [(&[4, 0, 1, 1][..], 8), (&[5, 0, 0], 8), (&[6, 1, 0, 1, 1], 24), (&[7, 0, 0, 0, 0], 8), (&[8], 12)];
+    let heads = [
+        (&[4, 0, 1, 1][..], 8),
+        (&[5, 0, 0], 8),
+        (&[6, 1, 0, 1, 1], 24),
+        (&[7, 0, 0, 0, 0], 8),
+        (&[8], 12),
+        (&[9, 1], 4),
+    ];
     for (head, lengths) in heads {
         frames.push(([head, &vec![0xff; lengths]].concat(), &[CUT_SHORT, TOO_LARGE]));
     }
@@ -136,6 +145,8 @@ fn largest_frames(pipe: &Pipe) -> Result<(), String> {
         Request::Find { file: Vec::new(), scope: 0, block: 0, rows: Vec::new() },
         Request::Salvage { file: vec![7; room::WRECK], out: vec![7; room::SALVAGED], dropped: vec![7; room::DROPPED] },
         Request::Salvage { file: Vec::new(), out: Vec::new(), dropped: Vec::new() },
+        Request::Ways { sets: 1, blocks: vec![3; room::ACCESSES] },
+        Request::Ways { sets: 1, blocks: Vec::new() },
     ];
     super::agree(pipe, &largest)?;
     println!("the largest and the smallest frames are answered");

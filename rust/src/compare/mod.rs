@@ -13,6 +13,7 @@ mod kinds;
 mod nests;
 pub mod salvages;
 pub mod walks;
+pub mod ways;
 pub mod writes;
 
 use crate::pipe::{Answer, Pipe, Request};
@@ -44,6 +45,8 @@ pub struct Settings {
     pub searched: usize,
     /// Files that are salvaged.
     pub salvaged: usize,
+    /// Traces that are counted for all ways.
+    pub counted: usize,
     /// A program that writes the content of its input again by the library: for files that `pipe` has no room for.
     pub library: Option<Pipe>,
 }
@@ -80,6 +83,7 @@ impl<'a> Comparison<'a> {
             Request::Write { content, out } => 2 * content.rows.len() + out.len(),
             Request::Find { file, rows, .. } => file.len() + 2 * rows.len(),
             Request::Salvage { file, out, dropped } => file.len() + out.len() + 8 * dropped.len(),
+            Request::Ways { blocks, .. } => 2 * blocks.len(),
             _ => 32,
         };
         self.waiting.push(request);

@@ -10,6 +10,7 @@ mod nmru;
 pub mod step;
 pub mod trace;
 mod tree;
+pub mod ways;
 
 pub use geometry::{Geometry, Policy, Shape};
 pub use legal::legal;

@@ -44,6 +44,10 @@ pub enum Body {
         out: Vec<u8>,
         dropped: Vec<u64>,
     },
+    /// "eight counts (refused: 0)"
+    Ways {
+        counts: Vec<u64>,
+    },
 }
 
 /// "A frame that cannot be answered ends the conversation. Its answer is the byte 0, then one byte that says why, then
@@ -88,6 +92,7 @@ impl Body {
                 let out = take_list(rest, out.len())?;
                 Body::Salvage { length, count, out, dropped: take_list(rest, dropped.len())? }
             }
+            Request::Ways { .. } => Body::Ways { counts: take_list(rest, 8)? },
         })
     }
 }

@@ -14,6 +14,7 @@ pub enum Request {
     Write { content: Content, out: Vec<u8> },
     Find { file: Vec<u8>, scope: u16, block: u16, rows: Vec<u16> },
     Salvage { file: Vec<u8>, out: Vec<u8>, dropped: Vec<u64> },
+    Ways { sets: u8, blocks: Vec<u16> },
 }
 
 impl Request {
@@ -27,6 +28,7 @@ impl Request {
             Request::Write { .. } => 6,
             Request::Find { .. } => 7,
             Request::Salvage { .. } => 8,
+            Request::Ways { .. } => 9,
         }
     }
 
@@ -79,6 +81,11 @@ impl Request {
                 out.extend_from_slice(file);
                 out.extend_from_slice(lent);
                 put_list(dropped, &mut out);
+            }
+            Request::Ways { sets, blocks } => {
+                sets.put(&mut out);
+                put_lengths([blocks.len()], &mut out);
+                put_list(blocks, &mut out);
             }
         }
         out

@@ -81,6 +81,9 @@ fn arguments(request: &Request) -> String {
             let accesses = format!("{} accesses: {}", blocks.len(), words(blocks));
             format!("trace run: {machine}\n  {accesses}\n  {} marks: {}", marks.len(), words(marks))
         }
+        Request::Ways { sets, blocks } => {
+            format!("all ways: {sets} sets\n  {} accesses: {}", blocks.len(), words(blocks))
+        }
         other => format!("{other:?}"),
     }
 }

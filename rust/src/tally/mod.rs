@@ -34,7 +34,9 @@ pub struct Tally {
 /// number. None where the place is always 0.
 fn extent(request: &Request, number: u8) -> Option<(u64, u64)> {
     let [nodes, edges, loops, facts] = match request {
-        Request::Trace { blocks, .. } if number == 21 => return Some((0, blocks.len() as u64)),
+        Request::Trace { blocks, .. } | Request::Ways { blocks, .. } if number == 21 => {
+            return Some((0, blocks.len() as u64))
+        }
         Request::Check { file, .. } => claimed_numbers(file)?,
         Request::Write { content, .. } => content.numbers(),
         // Past the graph's rules a finder and a salvage have no places.
@@ -120,7 +122,7 @@ impl Tally {
     pub fn demand(&self, operation: u8, numbers: impl IntoIterator<Item = u8>, at_least: u64) -> Result<(), String> {
         for number in numbers {
             let places = self.get(operation, number);
-            let placed = matches!((operation, number), (5 | 6, 6..=18 | 24..=26) | (7 | 8, 6..=10 | 26) | (4, 21));
+            let placed = matches!((operation, number), (5 | 6, 6..=18 | 24..=26) | (7 | 8, 6..=10 | 26) | (4 | 9, 21));
             let fewest = places.first.min(places.middle).min(places.last);
             if places.count < at_least || placed && fewest * 10 < at_least {
                 return Err(format!(

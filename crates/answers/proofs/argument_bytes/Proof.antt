@@ -39,21 +39,26 @@ returns-8 c = (rw (c .match .keys8), omega arith)
 
 returns-9 : tie.Need-returns-9
 unfolding argumentBytes
-returns-9 c =
+returns-9 c = (rw (c .match .keys9), omega arith)
+
+returns-10 : tie.Need-returns-10
+unfolding argumentBytes
+returns-10 c =
     let r = c .match .rest in
-    let low = r .0 .0 .0 .0 in (
+    let low = r .0 .0 .0 .0 .0 in (
       rw (
         ne-eqb _ 1 (low .0 .0 .0 .1),
         ne-eqb _ 2 (low .0 .0 .1),
         ne-eqb _ 3 (low .0 .1),
         ne-eqb _ 4 (low .1),
-        ne-eqb _ 5 (r .0 .0 .0 .1),
-        ne-eqb _ 6 (r .0 .0 .1),
-        ne-eqb _ 7 (r .0 .1),
-        ne-eqb _ 8 (r .1),
+        ne-eqb _ 5 (r .0 .0 .0 .0 .1),
+        ne-eqb _ 6 (r .0 .0 .0 .1),
+        ne-eqb _ 7 (r .0 .0 .1),
+        ne-eqb _ 8 (r .0 .1),
+        ne-eqb _ 9 (r .1),
       ),
       omega arith,
     )
 
 pub argument-bytes-spec : {M : Type 1} → statement M
-argument-bytes-spec = tie.close (tie.spec returns returns-2 returns-3 returns-4 returns-5 returns-6 returns-7 returns-8 returns-9)
+argument-bytes-spec = tie.close (tie.spec returns returns-2 returns-3 returns-4 returns-5 returns-6 returns-7 returns-8 returns-9 returns-10)

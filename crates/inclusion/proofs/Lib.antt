@@ -1,0 +1,3 @@
+pub mod FirstLines
+pub mod Found
+pub mod WaysRuns
