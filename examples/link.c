@@ -1,4 +1,4 @@
-/* Checks the case file on standard input and prints its listing, as the program `bounds` does: without interruptions. README.md says how to link it. */
+/* Checks the case file on standard input and prints its listing, as the program `bounds0` does: without interruptions. README.md says how to link it. */
 #include <bolgverk.h>
 #include <stdio.h>
 

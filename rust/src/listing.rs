@@ -1,4 +1,4 @@
-//! "A file and its listing": what the program `bounds` prints.
+//! "A file and its listing": what the programs `bounds` and `bounds0` print, for one interruption and for none.
 
 use crate::case::{judge, Bounds, Paper};
 use crate::refusal::{demand, Refusal};

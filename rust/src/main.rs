@@ -3,8 +3,10 @@
 mod options;
 
 use options::{Options, USAGE};
+use second::compare::bounds::Programs;
 use second::compare::{bounds, caches, evidence, files, finds, frames, salvages, walks, ways, writes};
 use second::must_break;
+use second::pipe::Pipe;
 use std::process::ExitCode;
 use std::time::Instant;
 
@@ -51,14 +53,13 @@ enum Failure {
 
 fn run(part: &str, options: &Options) -> Result<(), Failure> {
     let settings = &options.settings;
-    let pipe = || options.pipe.as_ref().ok_or(Failure::Usage(format!("{part} needs to know how to start pipe")));
-    let program = || options.bounds.as_ref().ok_or(Failure::Usage(format!("{part} needs to know how to start bounds")));
+    let pipe = || known(part, "pipe", &options.pipe);
     let result = match part {
         "caches" => caches::run(pipe()?, settings),
         "frames" => frames::run(pipe()?, settings),
         "files" => files::run(pipe()?, settings),
         "writes" => writes::run(pipe()?, settings),
-        "bounds" => bounds::run(program()?, pipe()?, settings),
+        "bounds" => bounds::run(&programs(part, options)?, pipe()?, settings),
         "evidence" => evidence::run(pipe()?, settings),
         "finds" => finds::run(pipe()?, settings),
         "salvages" => salvages::run(pipe()?, settings),
@@ -69,6 +70,17 @@ fn run(part: &str, options: &Options) -> Result<(), Failure> {
         _ => return Err(Failure::Usage(format!("no part {part}"))),
     };
     result.map_err(Failure::Case)
+}
+
+/// How a program is started that the part needs.
+fn known<'a>(part: &str, name: &str, program: &'a Option<Pipe>) -> Result<&'a Pipe, Failure> {
+    program.as_ref().ok_or(Failure::Usage(format!("{part} needs to know how to start {name}")))
+}
+
+fn programs<'a>(part: &str, options: &'a Options) -> Result<Programs<'a>, Failure> {
+    let bounds = known(part, "bounds", &options.bounds)?;
+    let bounds0 = known(part, "bounds0", &options.bounds0)?;
+    Ok(Programs { bounds, bounds0 })
 }
 
 fn usage(fault: &str) -> ExitCode {

@@ -6,14 +6,14 @@ use second::pipe::Pipe;
 pub const USAGE: &str = "\
 usage: compare [OPTION..] PART.. [-- PROGRAM [ARGUMENT..]]
 
-Compares the proved operations, over `pipe`, and the program `bounds` with the second simulator. Ends with 0 if all agree, with 1 at the first difference.
+Compares the proved operations, over `pipe`, and the programs `bounds` and `bounds0` with the second simulator. Ends with 0 if all agree, with 1 at the first difference.
 
 parts:
   caches      trace runs, single steps, addresses, set numbers
   frames      frames that cannot be answered
   files       case files, sound and damaged: verdicts, places, and bounds for any number of interruptions
   writes      contents, sound and damaged: the files that are written, and refusals
-  bounds      what the program `bounds` prints for case files, sound, damaged and too long
+  bounds      what the programs `bounds` and `bounds0` print for case files, sound, damaged and too long
   evidence    evidence exists exactly when it should
   finds       facts that are found in graphs without them: limits and rows, and refusals
   salvages    files with several bad facts, cut ones and strays: what is left of them, what is dropped, and refusals
@@ -27,13 +27,14 @@ In each part but search every file that passes the layout rules is also taken ap
 options:
   --pipe 'PROGRAM ARGUMENT..'  how to start `pipe`; or give it behind --
   --bounds 'PROGRAM ARGUMENT..'  how to start `bounds`
+  --bounds0 'PROGRAM ARGUMENT..'  how to start `bounds0`
   --library 'PROGRAM ARGUMENT..'  how to start a program that writes the content of its input again by the library, as `bench_write again` does: for files
                 that `pipe` has no room for; without it these go by the second simulator alone
   --seed N      (1)
   --accesses N  accesses for each policy, number of ways and of sets (200000)
   --steps N     single steps for each policy and number of ways (10000)
   --files N     case files (20000)
-  --printed N   case files that `bounds` is started on (2000)
+  --printed N   case files that `bounds` and `bounds0` are started on (2000)
   --graphs N    small graphs whose evidence is tried (600)
   --walked N    small files that are walked through, or searched (10000)
   --written N   contents that are written (10000)
@@ -46,6 +47,7 @@ pub struct Options {
     pub settings: Settings,
     pub pipe: Option<Pipe>,
     pub bounds: Option<Pipe>,
+    pub bounds0: Option<Pipe>,
     pub parts: Vec<String>,
 }
 
@@ -64,13 +66,14 @@ pub fn read(arguments: impl Iterator<Item = String>) -> Result<Options, String> 
         counted: 2_000,
         library: None,
     };
-    let mut options = Options { settings, pipe: None, bounds: None, parts: Vec::new() };
+    let mut options = Options { settings, pipe: None, bounds: None, bounds0: None, parts: Vec::new() };
     let mut rest = arguments;
     while let Some(word) = rest.next() {
         match word.as_str() {
             "--" => options.pipe = start(rest.by_ref().collect()),
             "--pipe" => options.pipe = start(words(&value(&mut rest, &word)?)),
             "--bounds" => options.bounds = start(words(&value(&mut rest, &word)?)),
+            "--bounds0" => options.bounds0 = start(words(&value(&mut rest, &word)?)),
             "--library" => options.settings.library = start(words(&value(&mut rest, &word)?)),
             _ if word.starts_with("--") => options.set(&word, &value(&mut rest, &word)?)?,
             _ => options.parts.push(word),

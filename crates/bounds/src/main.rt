@@ -1,31 +1,4 @@
-// Reads a case file from standard input and prints its bounds where nothing interrupts the task, or the refusal. Where it cannot read or write, it says so
-// on standard error: a program has no exit status of its own, and scripts/bounds gives one for it.
-use libc::STDERR_FILENO;
-use libc::STDIN_FILENO;
-use libc::STDOUT_FILENO;
-
-// One byte more than is allowed shows that the input is longer.
+// Prints the bounds of the case file on standard input where the task is interrupted once at most, or the refusal: "Every slot has a timer tick in it."
 fn main() {
-    let mut input = [0u8; 65537];
-    let mut out = [0u8; listing::LONGEST];
-    let n = io::read_full(STDIN_FILENO, &mut input);
-    if n < 65537 {
-        if !ended() {
-            io::write_all(
-                STDERR_FILENO,
-                b"bounds: the input cannot be read to its end\n",
-            );
-            return;
-        }
-    }
-    let r = listing::listing(&input[..n], 0, &mut out);
-    if !io::write_all(STDOUT_FILENO, &out[0..r]) {
-        io::write_all(STDERR_FILENO, b"bounds: the output cannot be written\n");
-    }
-}
-
-// Another read tells the end of the input from a read that failed: `read_full` stops at both and says no more.
-fn ended() -> bool {
-    let mut more = [0u8; 1];
-    libc::read(STDIN_FILENO, &mut more) == 0
+    listing::program::run(b"bounds", 1);
 }

@@ -1,4 +1,6 @@
-// The listing of a case file: what the program prints, as bytes.
+// The listing of a case file: what the programs print, as bytes.
+pub mod program;
+
 ghost use Prim.Native.Nat.{_+_, _≤_};
 ghost use lib.ListN.{length};
 ghost use Rattle.paper.specs.Bounds.{listLength};

@@ -93,6 +93,7 @@ checkedNumbers =
     ∷ IsStep 0 2 (11 ∷ 10 ∷ []) 0 10 true (10 ∷ 11 ∷ []) 0
     ∷ AreNumbers 1 0 4 4 5 5 ∷ AreNumbers 0 0 2 2 1 1 ∷ AreNumbers 2 0 2 2 1 1 ∷ AreNumbers 1 1 8 8 6 6
     ∷ IsListing 1 0 "total 4\nset 0 4\nfact 0 5\nfact 1 5\n"
+    ∷ IsListing 1 1 "total 8\nset 0 8\nfact 0 6\nfact 1 6\n"
     ∷ IsListing 0 0 "total 2\nset 0 2\nfact 0 1\nfact 1 1\n"
     ∷ IsListing 2 0 "total 2\nset 0 2\nfact 0 1\nfact 1 1\n"
     ∷ []

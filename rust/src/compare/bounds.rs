@@ -1,4 +1,4 @@
-//! The program `bounds` itself, started anew for each file: what it prints, byte for byte.
+//! The programs `bounds` and `bounds0` themselves, started anew for each file: what they print, byte for byte.
 
 use super::again::Again;
 use super::borders::fetched_once;
@@ -15,9 +15,6 @@ use crate::random::Random;
 use crate::show;
 use std::collections::{BTreeMap, BTreeSet};
 
-/// "With p = 0 all is as before, and `bounds` keeps to 0."
-const INTERRUPTIONS: u16 = 0;
-
 /// How often each kind of text must be seen.
 const AT_LEAST: u64 = 10;
 
@@ -28,16 +25,24 @@ struct Seen {
     /// Listings with facts in several sets, and with all 64 sets.
     spread: u64,
     widest: u64,
+    /// Files with another listing where nothing interrupts.
+    raised: u64,
     lines: usize,
 }
 
-pub fn run(bounds: &Program, pipe: &Pipe, settings: &Settings) -> Result<(), String> {
+/// "`bounds` now always takes p = 1. The nightly comparison relied on 0 and gets a program `bounds0` that keeps it".
+pub struct Programs<'a> {
+    pub bounds: &'a Program,
+    pub bounds0: &'a Program,
+}
+
+pub fn run(programs: &Programs, pipe: &Pipe, settings: &Settings) -> Result<(), String> {
     let mut random = Random::for_part(settings.seed, "bounds");
     let mut again = Again::new(pipe, settings.library.as_ref());
     let mut seen = Seen::default();
     for file in at_the_limits() {
         again.add(&file)?;
-        compare(bounds, &file, &mut seen)?;
+        compare(programs, &file, &mut seen)?;
     }
     for i in 0..settings.printed {
         let file = match i % 10 {
@@ -46,23 +51,31 @@ pub fn run(bounds: &Program, pipe: &Pipe, settings: &Settings) -> Result<(), Str
             _ => damaged_file(&mut random, i / 10 * 4 + i % 10 - 6),
         };
         again.add(&file)?;
-        compare(bounds, &file, &mut seen)?;
+        compare(programs, &file, &mut seen)?;
     }
     seen.report(settings.printed);
     seen.demand()?;
     again.finish()
 }
 
-/// Starts the program on the file, and holds what it prints to the second simulator's listing.
-fn compare(bounds: &Program, file: &[u8], seen: &mut Seen) -> Result<(), String> {
-    let own = listing(file, INTERRUPTIONS);
-    let said = bounds.converse(file.to_vec())?;
+/// Starts a program on the file, and holds what it prints to the second simulator's listing for so many interruptions.
+fn printed(name: &str, program: &Program, file: &[u8], interruptions: u16) -> Result<String, String> {
+    let own = listing(file, interruptions);
+    let said = program.converse(file.to_vec())?;
     if said.bytes != own.as_bytes() || !said.status.success() {
         let printed = String::from_utf8_lossy(&said.bytes);
         let texts =
-            format!("the second simulator has\n{own}bounds, which ended with {}, printed\n{printed}", said.status);
+            format!("the second simulator has\n{own}{name}, which ended with {}, printed\n{printed}", said.status);
         return Err(format!("{}{texts}", show::file(file)));
     }
+    Ok(own)
+}
+
+/// Starts both programs on the file. "Refusals: unchanged."
+fn compare(programs: &Programs, file: &[u8], seen: &mut Seen) -> Result<(), String> {
+    let own = printed("bounds", programs.bounds, file, 1)?;
+    let own0 = printed("bounds0", programs.bounds0, file, 0)?;
+    seen.raised += u64::from(own != own0);
     let words: Vec<&str> = own.split_whitespace().collect();
     let kind = if words[0] == "refused" { words[..2].join(" ") } else { words[0].to_string() };
     *seen.texts.entry(kind).or_default() += 1;
@@ -128,11 +141,12 @@ fn at_the_limits() -> Vec<Vec<u8>> {
 
 impl Seen {
     fn report(&self, files: usize) {
-        println!("what bounds printed for {files} files and some at the limits:");
+        println!("what bounds and bounds0 printed for {files} files and some at the limits:");
         for (text, count) in &self.texts {
             println!("  {text:<10} {count:>6}");
         }
         println!("  files with facts in several sets: {}, with 64 sets: {}", self.spread, self.widest);
+        println!("  files with another listing where nothing interrupts: {}", self.raised);
         println!("  lines of the longest listing: {}", self.lines);
     }
 
@@ -145,6 +159,9 @@ impl Seen {
         }
         if self.spread < AT_LEAST || self.widest < AT_LEAST {
             return Err("too few files had facts in several sets, or 64 sets".to_string());
+        }
+        if self.raised < AT_LEAST {
+            return Err("too few files had another listing where nothing interrupts".to_string());
         }
         Ok(())
     }

@@ -33,7 +33,7 @@ pub struct Settings {
     pub steps: usize,
     /// Case files.
     pub files: usize,
-    /// Case files that `bounds` is started on.
+    /// Case files that `bounds` and `bounds0` are started on.
     pub printed: usize,
     /// Small graphs whose evidence is tried.
     pub graphs: usize,
