@@ -1,5 +1,5 @@
-/* All ways in one pass over made-up accesses: by plain C, by the proved library, or not at all, so that the cost of making the input can be taken off.
- * usage: bench_ways none|plain|proved SETS ACCESSES      prints the refusal, its place and the eight counts */
+/* All ways in one pass over made-up accesses: by plain C, by the proved library, or not at all, so that the cost of making the input can be taken off; and by eight proved trace runs.
+ * usage: bench_ways none|plain|proved|runs SETS ACCESSES      prints the refusal, its place and the eight counts */
 #include "plain.h"
 #include <bolgverk.h>
 #include <stdio.h>
@@ -16,6 +16,15 @@ static void make_blocks(uint16_t *blocks, size_t accesses, unsigned held)
     }
 }
 
+/* LRU is policy 0. A refusal is the same for each number of ways. */
+static uint8_t eight_runs(uint8_t sets, const uint16_t *blocks, size_t accesses, uint64_t counts[8], uint64_t *place)
+{
+    uint8_t *marks = malloc(accesses), refused = 0;
+    for (uint8_t ways = 1; ways <= 8; ways++)
+        refused = bolgverk_trace_run(0, ways, sets, blocks, accesses, marks, accesses, &counts[ways - 1], place);
+    return refused;
+}
+
 int main(int argc, char **argv)
 {
     if (argc != 4)
@@ -29,6 +38,8 @@ int main(int argc, char **argv)
         refused = plain_all_ways(sets, blocks, accesses, counts, &place);
     else if (strcmp(argv[1], "proved") == 0)
         refused = bolgverk_all_ways(sets, blocks, accesses, counts, &place);
+    else if (strcmp(argv[1], "runs") == 0)
+        refused = eight_runs(sets, blocks, accesses, counts, &place);
     printf("%u %lu", refused, place);
     for (unsigned j = 0; j < 8; j++)
         printf(" %lu", counts[j]);
