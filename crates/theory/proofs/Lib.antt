@@ -40,6 +40,9 @@ pub mod Seen
 pub mod Printed
 pub mod Demand
 pub mod Accepted
+pub mod Paying
+pub mod Rounds
+pub mod Times
 pub mod Unlimited
 pub mod Undisturbed
 pub mod Sorted
