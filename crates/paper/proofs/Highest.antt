@@ -2,7 +2,7 @@
 use Prim.Native.Nat.{ℕ, zero, suc, _≤_, _<_, min}
 use native.Mathlib.Omega.{arith}
 use native.Mathlib.Decide.{decLe, ℕ-discrete}
-use mathlib.Core.Path.{_≡_, ap}
+use mathlib.Core.Path.{_≡_, refl, ap}
 use mathlib.Core.Logic.{dite}
 use Rattle.paper.specs.Lists.{highestTo}
 
@@ -27,3 +27,19 @@ pub highest-cut : (k : ℕ) (f g : ℕ → ℕ) → ((i : ℕ) → f i ≡ min (
 unfolding highestTo
 highest-cut k f g h zero = omega arith
 highest-cut k f g h (suc n) = omega (arith, h n, highest-cut k f g h n)
+
+-- values that agree
+pub highest-same : (f g : ℕ → ℕ) (n : ℕ) → ((i : ℕ) → i < n → f i ≡ g i) → highestTo f n ≡ highestTo g n
+unfolding highestTo
+highest-same f g zero h = refl
+highest-same f g (suc n) h = omega (arith, highest-same f g n (λ i l. h i (omega arith)), h n (omega arith))
+
+-- values of 0 from k on
+pub highest-past : (g : ℕ → ℕ) (k n : ℕ) → k ≤ n → ((i : ℕ) → k ≤ i → i < n → g i ≡ 0) → highestTo g n ≡ highestTo g k
+unfolding highestTo
+highest-past g k zero l h = let z : k ≡ 0 = omega arith in rw z refl
+highest-past g k (suc n) l h =
+    elim (ℕ-discrete k (suc n)) [
+      | yes p ↦ rw p refl
+      | no q ↦ omega (arith, highest-past g k n (omega arith) (λ i a b. h i a (omega arith)), h n (omega arith) (omega arith))
+    ]

@@ -46,7 +46,7 @@ module _ (e : Case) (k : ℕ) where
           record { from = r .0; below = w .below; has = r .1; first = λ i a b q. says-false (test-says v i) .0 (w .none i b) (a, q) }
 
   module _ (v : ℕ) (h : Free v) where
-    free-outer : stepLoop e k v ≡ e .loops
+    pub free-outer : stepLoop e k v ≡ e .loops
     unfolding stepLoop
     free-outer = least-none (λ j. leb k j && inside (e .loop j) v) (e .loops) (λ j l. says-false (test-says v j) .1 (λ q. h j (q .0) l (q .1)))
 

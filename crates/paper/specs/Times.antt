@@ -2,10 +2,12 @@
 -- "Inside a loop, the longest way from the header along forward edges, each inner loop taken as one step of its own time, times B, is the loop's time for one entry."
 use Prim.Native.Nat.{ℕ, suc, _+_, _-_, _*_, _≤_, _<_, max}
 use mathlib.Core.Path.{_≡_}
-use mathlib.Core.Bool.{true, cond, _&&_}
+use mathlib.Core.Bool.{true, cond, not, _&&_}
 use mathlib.Core.List.{List, [], _∷_}
 use lib.Dec.{eqb, ltb, leb}
 use lib.ListN.{getD}
+use Rattle.paper.specs.declared.Verdict.{Verdict}
+use Rattle.paper.specs.Rules.{rule}
 use Rattle.paper.specs.Lists.{least, bit, highestTo, inTurn}
 use Rattle.paper.specs.Traces.{Content}
 use Rattle.paper.specs.Cases.{Case, inside}
@@ -79,6 +81,15 @@ module _ (e : Case) (cost : ℕ → ℕ) where
   -- "plus penalty times the total miss bound"
   unfoldable pub graphTime : ℕ → ℕ → ℕ
   graphTime penalty total = longest + penalty * total
+
+-- "27 if the time exceeds 9,223,372,036,854,775,807"
+abbrev pub mostTime : ℕ
+mostTime = 9223372036854775807
+
+-- "The check's own but its 20, then 20 for a cost list of the wrong length, then 27 if the time exceeds 9,223,372,036,854,775,807; both at place 0": what comes after the check's own,
+-- for a graph with so many nodes, a list with so many costs, and this time.
+unfoldable pub timeRules : ℕ → ℕ → ℕ → Verdict → Verdict
+timeRules nodes costs time rest = rule 20 0 (not (eqb costs nodes)) (rule 27 0 (ltb mostTime time) rest)
 
 -- "For every walk of demand 3, the sum of its node costs and penalties is no larger."
 abbrev pub TimeHolds : Case → (ℕ → ℕ) → ℕ → ℕ → Type 0

@@ -1,0 +1,3 @@
+pub mod Pushed
+pub mod Ready
+pub mod Numbered
