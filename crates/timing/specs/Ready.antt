@@ -9,17 +9,13 @@ use Rattle.paper.specs.Files.{caseOf}
 use Rattle.paper.specs.Times.{stepLoop, timeOf}
 use Rattle.timing.specs.Pushed.{cut}
 
--- the costs as they are lent
-abbrev pub costBy : List ℕ → ℕ → ℕ
-costBy costs v = getD costs v 0
-
--- "a cost for each node": as many as there are nodes, or more
-pub record Priced (trailer : Trailer) (costs : List ℕ) : Type 0 where
-  pub room : trailer .nodes ≤ length costs
-  pub small : (v : ℕ) → v < trailer .nodes → costBy costs v ≤ cut
+-- a list, by its entries
+abbrev pub entry : List ℕ → ℕ → ℕ
+entry l i = getD l i 0
 
 -- The loops from number k on are steps.
 pub record Ready (f : List ℕ) (trailer : Trailer) (costs : List ℕ) (k : ℕ) (steps times : List ℕ) : Type 0 where
-  pub room : trailer .nodes ≤ length steps
+  pub step-room : trailer .nodes ≤ length steps
+  pub time-room : trailer .loops ≤ length times
   pub step : (v : ℕ) → v < trailer .nodes → getD steps v 0 ≡ stepLoop (caseOf f trailer) k v
-  pub time : (j : ℕ) → k ≤ j → j < trailer .loops → getD times j 0 ≡ min (timeOf (caseOf f trailer) (costBy costs) j) cut
+  pub time : (j : ℕ) → k ≤ j → j < trailer .loops → getD times j 0 ≡ min (timeOf (caseOf f trailer) (entry costs) j) cut

@@ -2,12 +2,12 @@
 ghost use mathlib.Core.Path.{_≡_};
 ghost use Prim.Native.Nat.{suc, _<_, _≤_, min};
 ghost use lib.ListN.{length};
-ghost use Rattle.paper.specs.Ceilings.{mostNodes};
+ghost use Rattle.paper.specs.Ceilings.{mostNodes, mostLoops};
 ghost use Rattle.paper.specs.Files.{caseOf};
 ghost use Rattle.paper.specs.Known.{Laid, Shaped};
 ghost use Rattle.paper.specs.Times as Times;
 ghost use Rattle.timing.specs.Pushed.{cut};
-ghost use Rattle.timing.specs.Ready.{costBy, Priced, Ready};
+ghost use Rattle.timing.specs.Ready.{entry, Ready};
 
 mod amounts;
 mod steps;
@@ -32,7 +32,7 @@ fn take_loop(
 )
     requires { ⌜ Laid (now file) trailer ⌝ }
     requires { ⌜ Shaped (caseOf (now file) trailer) ⌝ }
-    requires { ⌜ Priced trailer (now costs) ⌝ }
+    requires { ⌜ trailer .nodes ≤ length (now costs) ⌝ }
     requires { ⌜ j < trailer .loops ⌝ }
     requires { ⌜ Ready (now file) trailer (now costs) (suc j) (now steps) (now times) ⌝ }
     ensures { λ r. ⌜ Ready (now (file .entry)) trailer (now (costs .entry)) j (now (steps .exit)) (now (times .exit)) ⌝ }
@@ -58,8 +58,9 @@ fn take_loops(
 )
     requires { ⌜ Laid (now file) trailer ⌝ }
     requires { ⌜ Shaped (caseOf (now file) trailer) ⌝ }
-    requires { ⌜ Priced trailer (now costs) ⌝ }
+    requires { ⌜ trailer .nodes ≤ length (now costs) ⌝ }
     requires { ⌜ mostNodes ≤ length (now steps) ⌝ }
+    requires { ⌜ mostLoops ≤ length (now times) ⌝ }
     ensures { λ r. ⌜ Ready (now (file .entry)) trailer (now (costs .entry)) 0 (now (steps .exit)) (now (times .exit)) ⌝ }
 {
     graph::fill(steps, 0, trailer.nodes as usize, trailer.loops as u32);
@@ -83,7 +84,7 @@ pub fn time_of(
     requires { ⌜ Shaped (caseOf (now file) trailer) ⌝ }
     requires { ⌜ trailer .nodes ≤ length (now costs) ⌝ }
     requires { ⌜ mostNodes ≤ length (now table) ⌝ }
-    ensures { λ r. ⌜ r ≡ min (Times.graphTime (caseOf (now (file .entry)) trailer) (costBy (now (costs .entry))) penalty total) cut ⌝ }
+    ensures { λ r. ⌜ r ≡ min (Times.graphTime (caseOf (now (file .entry)) trailer) (entry (now (costs .entry))) penalty total) cut ⌝ }
 {
     let mut times: [u64; MOST_LOOPS] = [0; MOST_LOOPS];
     take_loops(file, trailer, costs, table, &mut times);

@@ -1,13 +1,13 @@
 // The step that has a node, and its number: 0 where no way leads to it, else one more than the time of the longest, that step included.
 ghost use mathlib.Core.Path.{_≡_};
 ghost use Prim.Native.Nat.{_<_, _≤_};
-ghost use lib.ListN.{getD};
+ghost use lib.ListN.{length};
 ghost use Rattle.paper.specs.Files.{caseOf};
-ghost use Rattle.paper.specs.Known.{Laid, Shaped};
+ghost use Rattle.paper.specs.Known.{Laid};
 ghost use Rattle.paper.specs.Times as Times;
 ghost use Rattle.timing.specs.Pushed as Pushed;
 ghost use Rattle.timing.specs.Pushed.{cut};
-ghost use Rattle.timing.specs.Ready.{costBy, Priced, Ready};
+ghost use Rattle.timing.specs.Ready.{entry, Ready};
 use crate::amounts::TOO_LARGE;
 use crate::amounts::added;
 use paper::MOST_LOOPS;
@@ -47,10 +47,10 @@ fn step_time(
     v: u16,
 ) -> u64
     requires { ⌜ Laid (now file) trailer ⌝ }
-    requires { ⌜ Priced trailer (now costs) ⌝ }
+    requires { ⌜ trailer .nodes ≤ length (now costs) ⌝ }
     requires { ⌜ Ready (now file) trailer (now costs) k (now steps) (now times) ⌝ }
     requires { ⌜ v < trailer .nodes ⌝ }
-    ensures { λ r. ⌜ r ≡ Times.stepTime (caseOf (now (file .entry)) trailer) (costBy (now (costs .entry))) (λ j. getD (now (times .entry)) j 0) k v ⌝ }
+    ensures { λ r. ⌜ r ≡ Times.stepTime (caseOf (now (file .entry)) trailer) (entry (now (costs .entry))) (entry (now (times .entry))) k v ⌝ }
     ensures { λ r. ⌜ r ≤ cut ⌝ }
 {
     let step = steps[v as usize];
@@ -72,10 +72,10 @@ pub fn number(
     v: u16,
 ) -> u64
     requires { ⌜ Laid (now file) trailer ⌝ }
-    requires { ⌜ Priced trailer (now costs) ⌝ }
+    requires { ⌜ trailer .nodes ≤ length (now costs) ⌝ }
     requires { ⌜ Ready (now file) trailer (now costs) k (now steps) (now times) ⌝ }
     requires { ⌜ v < trailer .nodes ⌝ }
-    ensures { λ r. ⌜ r ≡ Pushed.numberBy (caseOf (now (file .entry)) trailer) (costBy (now (costs .entry))) (λ j. getD (now (times .entry)) j 0) cut k (λ u. getD (now (table .entry)) u 0) v ⌝ }
+    ensures { λ r. ⌜ r ≡ Pushed.numberBy (caseOf (now (file .entry)) trailer) (entry (now (costs .entry))) (entry (now (times .entry))) cut k (entry (now (table .entry))) v ⌝ }
 {
     let first = step_first(file, trailer, costs, k, steps, times, v);
     let before = table[first as usize];

@@ -1,14 +1,14 @@
 // The longest way from a node: the numbers are taken along the edges in file order, and the greatest is found.
 ghost use mathlib.Core.Path.{_≡_};
 ghost use Prim.Native.Nat.{_<_, _≤_, min};
-ghost use lib.ListN.{getD};
+ghost use lib.ListN.{length};
 ghost use Rattle.paper.specs.Lists.{highestTo};
 ghost use Rattle.paper.specs.Files.{caseOf};
 ghost use Rattle.paper.specs.Known.{Laid, Shaped};
 ghost use Rattle.paper.specs.Times as Times;
 ghost use Rattle.timing.specs.Pushed as Pushed;
 ghost use Rattle.timing.specs.Pushed.{cut};
-ghost use Rattle.timing.specs.Ready.{costBy, Priced, Ready};
+ghost use Rattle.timing.specs.Ready.{entry, Ready};
 ghost use Rattle.timing.specs.Numbered.{Zeros, Numbered};
 use crate::amounts::greater;
 use crate::amounts::less_one;
@@ -19,9 +19,9 @@ use paper::Trailer;
 
 // Ways from the node `first`, over nodes before `end`, where the loops from number `k` on are steps.
 pub struct Level {
-    k: u16,
-    first: u16,
-    end: u16,
+    pub k: u16,
+    pub first: u16,
+    pub end: u16,
 }
 
 // What the edge from u to v carries.
@@ -37,10 +37,10 @@ fn carried(
     v: u16,
 ) -> u64
     requires { ⌜ Laid (now file) trailer ⌝ }
-    requires { ⌜ Priced trailer (now costs) ⌝ }
+    requires { ⌜ trailer .nodes ≤ length (now costs) ⌝ }
     requires { ⌜ Ready (now file) trailer (now costs) k (now steps) (now times) ⌝ }
     requires { ⌜ u < trailer .nodes ⌝ }
-    ensures { λ r. ⌜ r ≡ Pushed.carried (caseOf (now (file .entry)) trailer) (costBy (now (costs .entry))) (λ j. getD (now (times .entry)) j 0) cut k (λ u. getD (now (table .entry)) u 0) u v ⌝ }
+    ensures { λ r. ⌜ r ≡ Pushed.carried (caseOf (now (file .entry)) trailer) (entry (now (costs .entry))) (entry (now (times .entry))) cut k (entry (now (table .entry))) u v ⌝ }
 {
     if u < v {
         return number(file, trailer, costs, k, steps, times, table, u);
@@ -60,11 +60,11 @@ fn push(
 )
     requires { ⌜ Laid (now file) trailer ⌝ }
     requires { ⌜ Shaped (caseOf (now file) trailer) ⌝ }
-    requires { ⌜ Priced trailer (now costs) ⌝ }
+    requires { ⌜ trailer .nodes ≤ length (now costs) ⌝ }
     requires { ⌜ Ready (now file) trailer (now costs) (level .k) (now steps) (now times) ⌝ }
     requires { ⌜ level .first < trailer .nodes ⌝ }
     requires { ⌜ Zeros (trailer .nodes) (now table) ⌝ }
-    ensures { λ r. ⌜ Numbered (caseOf (now (file .entry)) trailer) (costBy (now (costs .entry))) (now (times .entry)) (level .k) (level .first) (trailer .edges) (now (table .exit)) ⌝ }
+    ensures { λ r. ⌜ Numbered (caseOf (now (file .entry)) trailer) (entry (now (costs .entry))) (now (times .entry)) (level .k) (level .first) (trailer .edges) (now (table .exit)) ⌝ }
 {
     table[level.first as usize] = 1;
     let mut i: u16 = 0;
@@ -88,15 +88,18 @@ fn highest(
     table: &[u64; MOST_NODES],
 ) -> u64
     requires { ⌜ Laid (now file) trailer ⌝ }
-    requires { ⌜ Priced trailer (now costs) ⌝ }
+    requires { ⌜ trailer .nodes ≤ length (now costs) ⌝ }
     requires { ⌜ Ready (now file) trailer (now costs) (level .k) (now steps) (now times) ⌝ }
     requires { ⌜ level .end ≤ trailer .nodes ⌝ }
-    ensures { λ r. ⌜ r ≡ highestTo (Pushed.numberBy (caseOf (now (file .entry)) trailer) (costBy (now (costs .entry))) (λ j. getD (now (times .entry)) j 0) cut (level .k) (λ u. getD (now (table .entry)) u 0)) (level .end) ⌝ }
+    ensures { λ r. ⌜ r ≡ highestTo (Pushed.numberBy (caseOf (now (file .entry)) trailer) (entry (now (costs .entry))) (entry (now (times .entry))) cut (level .k) (entry (now (table .entry)))) (level .end) ⌝ }
 {
     let mut most: u64 = 0;
     let mut v: u16 = 0;
     while v < level.end {
-        most = greater(most, number(file, trailer, costs, level.k, steps, times, table, v));
+        most = greater(
+            most,
+            number(file, trailer, costs, level.k, steps, times, table, v),
+        );
         v += 1;
     }
     most
@@ -113,11 +116,11 @@ pub fn longest_way(
 ) -> u64
     requires { ⌜ Laid (now file) trailer ⌝ }
     requires { ⌜ Shaped (caseOf (now file) trailer) ⌝ }
-    requires { ⌜ Priced trailer (now costs) ⌝ }
+    requires { ⌜ trailer .nodes ≤ length (now costs) ⌝ }
     requires { ⌜ Ready (now file) trailer (now costs) (level .k) (now steps) (now times) ⌝ }
     requires { ⌜ level .first < trailer .nodes ⌝ }
     requires { ⌜ level .end ≤ trailer .nodes ⌝ }
-    ensures { λ r. ⌜ r ≡ min (Times.longestWay (caseOf (now (file .entry)) trailer) (costBy (now (costs .entry))) (Times.timeOf (caseOf (now (file .entry)) trailer) (costBy (now (costs .entry)))) (level .k) (level .first) (level .end)) cut ⌝ }
+    ensures { λ r. ⌜ r ≡ min (Times.longestWay (caseOf (now (file .entry)) trailer) (entry (now (costs .entry))) (Times.timeOf (caseOf (now (file .entry)) trailer) (entry (now (costs .entry)))) (level .k) (level .first) (level .end)) cut ⌝ }
 {
     let mut table: [u64; MOST_NODES] = [0; MOST_NODES];
     push(file, trailer, costs, level, steps, times, &mut table);
