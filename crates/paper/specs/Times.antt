@@ -12,7 +12,7 @@ use Rattle.paper.specs.Lists.{least, bit, highestTo, inTurn}
 use Rattle.paper.specs.Traces.{Content}
 use Rattle.paper.specs.Cases.{Case, inside}
 use Rattle.paper.specs.Walks.{Edge, Walk, KeepsLimits}
-use Rattle.paper.specs.Runs.{LegalContent, run, misses}
+use Rattle.paper.specs.Runs.{LegalContent, Event, walkOf, interruptions, run, misses}
 
 -- "the sum of its node costs"
 abbrev pub spent : (ℕ → ℕ) → List ℕ → ℕ
@@ -91,7 +91,15 @@ mostTime = 9223372036854775807
 unfoldable pub timeRules : ℕ → ℕ → ℕ → Verdict → Verdict
 timeRules nodes costs time rest = rule 20 0 (not (eqb costs nodes)) (rule 27 0 (ltb mostTime time) rest)
 
--- "For every walk of demand 3, the sum of its node costs and penalties is no larger."
-abbrev pub TimeHolds : Case → (ℕ → ℕ) → ℕ → ℕ → Type 0
-TimeHolds e cost penalty time =
-    (w : List ℕ) → Walk e w → KeepsLimits e w → (c : Content) → LegalContent e c → spent cost w + penalty * misses (λ a. true) (run e c w) ≤ time
+-- "For every walk of demand 3, the sum of its node costs and penalties is no larger": every placing of at most p interruptions, and any legal content after each.
+abbrev pub TimeHolds : Case → ℕ → (ℕ → ℕ) → ℕ → ℕ → Type 0
+TimeHolds e p cost penalty time =
+    (r : List Event)
+    → Walk e (walkOf r)
+    → KeepsLimits e (walkOf r)
+    → interruptions r ≤ p
+    → (c : Content)
+    → LegalContent e c
+    → (left : ℕ → Content)
+    → ((i : ℕ) → i < interruptions r → LegalContent e (left i))
+    → spent cost (walkOf r) + penalty * misses (λ a. true) (run e c left r) ≤ time

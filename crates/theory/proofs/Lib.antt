@@ -39,10 +39,10 @@ pub mod SetBounds
 pub mod Seen
 pub mod Printed
 pub mod Demand
-pub mod Accepted
 pub mod Paying
 pub mod Rounds
 pub mod Times
+pub mod Accepted
 pub mod Unlimited
 pub mod Undisturbed
 pub mod Sorted

@@ -9,19 +9,15 @@ use mathlib.Core.Logic.{⊎-elim}
 use mathlib.Core.Bool.{Bool, true, cond, _&&_}
 use mathlib.Core.Option.{Option, none, some}
 use mathlib.Core.List.{List, [], _∷_}
-use Rattle.paper.specs.declared.Verdict.the-variants.{Accepted}
 use Rattle.paper.specs.Lists.{bit}
 use Rattle.paper.specs.Cases.{Case}
 use Rattle.paper.specs.Walks.{Walk, KeepsLimits, outside}
 use Rattle.paper.specs.Runs.{run, misses}
 use Rattle.paper.specs.Times.{spent, timeOf, longest, graphTime, TimeHolds}
 use Rattle.paper.specs.Bounds.{totalBound}
-use Rattle.paper.specs.Files.{caseOf, readCase}
-use Rattle.paper.specs.Verdicts.{verdict}
 use Rattle.paper.proofs.Says.{Says, holds, fails}
 use Rattle.paper.proofs.Meaning.{In, SoundGraph, Sound}
 use Rattle.paper.proofs.GraphLaws.{inside-says}
-use Rattle.paper.proofs.VerdictLaws.{file-sound, enough}
 use Rattle.paper.proofs.TimeLaws.{Free, Held, step-of, time-is}
 use Rattle.theory.proofs.Tally.{tally, begins, stays}
 use Rattle.theory.proofs.Limits.{visits-stays}
@@ -114,9 +110,3 @@ module _ (e : Case) (s : SoundGraph e) (cost : ℕ → ℕ) (w : List ℕ) (walk
 pub time-holds : (e : Case) → Sound e → (cost : ℕ → ℕ) (penalty : ℕ) → TimeHolds e cost penalty (graphTime e cost penalty (totalBound e))
 time-holds e s cost penalty w walk kept c legal =
     time-le e (s .graph) cost w walk kept (s .nodes) penalty (misses (λ a. true) (run e c w)) (totalBound e) (total-holds e s w walk kept c legal)
-
-pub accepted-time :
-    (f : List ℕ) (room : ℕ) → verdict f room ≡ Accepted → (cost : ℕ → ℕ) (penalty : ℕ)
-    → TimeHolds (readCase f) cost penalty (graphTime (readCase f) cost penalty (totalBound (readCase f)))
-unfolding caseOf
-accepted-time f room h = time-holds (readCase f) (file-sound f (enough f room h) .1)

@@ -35,7 +35,7 @@ returns c =
     let r = f .before .before .before .before in
     let d = r .before .before .before .before .before in
     let p = start d .pre .1 in
-    ready-more _ _ _ _ (p .1 .1 .0) _ (d .loop-at .ensures) (p .0) _ _ _ _ _ (p .1 .1 .1) (f .fill .ensures) (r .before .longest-way .ensures) (r .rounds .ensures)
+    ready-more _ _ _ _ (p .1 .1 .0) _ (d .loop-at .ensures) (p .0) _ _ _ _ _ (p .1 .1 .1) (f .fill .ensures) (r .before .longest-way .ensures) (omega (arith, r .rounds .ensures))
 
 pub take-loop-spec : {M : Type 1} → statement M
 take-loop-spec =

@@ -33,7 +33,7 @@ returns-2 c =
     let f = t .before .before .before in
     let a = start f .args in
     number-some (caseOf (a .file .now) (a .trailer)) (entry (a .costs .now)) (entry (a .times .now)) cut (a .k) (entry (a .table .now)) (a .v)
-    _ _ (f .step-first .ensures) refl (t .before .if1 .left) _ _ (t .step-time .ensures .0) (c .added .ensures)
+    _ _ (f .step-first .ensures) refl (t .before .if1 .left) _ _ (t .step-time .ensures .0) (omega (arith, c .added .ensures))
 
 pub number-spec : {M : Type 1} → statement M
 number-spec =
