@@ -7,6 +7,9 @@ use mathlib.Core.List.{List, [], _∷_}
 use lib.Dec.{eqb, ltb, leb}
 use lib.ListN.{getD}
 use Rattle.paper.specs.declared.Verdict.{Verdict}
+use Rattle.paper.specs.declared.Verdict.the-variants.{Accepted, Refused}
+use Rattle.paper.specs.declared.TimeAnswer.{TimeAnswer}
+use Rattle.paper.specs.declared.TimeAnswer.the-variants as TimeAnswers
 use Rattle.paper.specs.Rules.{rule}
 use Rattle.paper.specs.Lists.{least, bit, highestTo, inTurn}
 use Rattle.paper.specs.Traces.{Content}
@@ -90,6 +93,10 @@ mostTime = 9223372036854775807
 -- for a graph with so many nodes, a list with so many costs, and this time.
 unfoldable pub timeRules : ℕ → ℕ → ℕ → Verdict → Verdict
 timeRules nodes costs time rest = rule 20 0 (not (eqb costs nodes)) (rule 27 0 (ltb mostTime time) rest)
+
+abbrev pub timeAnswer : Verdict → ℕ → TimeAnswer
+timeAnswer Accepted time = TimeAnswers.Time time
+timeAnswer (Refused r) time = TimeAnswers.Refused r
 
 -- "For every walk of demand 3, the sum of its node costs and penalties is no larger": every placing of at most p interruptions, and any legal content after each.
 abbrev pub TimeHolds : Case → ℕ → (ℕ → ℕ) → ℕ → ℕ → Type 0

@@ -4,3 +4,4 @@ pub mod Products
 pub mod Looking
 pub mod Numbering
 pub mod Taking
+pub mod Answered

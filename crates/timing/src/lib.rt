@@ -8,6 +8,7 @@ ghost use Rattle.paper.specs.Known.{Laid, Shaped};
 ghost use Rattle.paper.specs.Times as Times;
 ghost use Rattle.timing.specs.Pushed.{cut};
 ghost use Rattle.timing.specs.Ready.{entry, Ready};
+ghost use Rattle.timing.specs.Answering.{answerFor};
 
 mod amounts;
 mod steps;
@@ -17,6 +18,7 @@ use amounts::TOO_LARGE;
 use amounts::added;
 use amounts::rounds;
 use paper::MOST_LOOPS;
+use paper::TimeAnswer;
 use paper::Trailer;
 use ways::Level;
 use ways::longest_way;
@@ -72,7 +74,7 @@ fn take_loops(
 }
 
 // "The graph's time is the longest way from node 0 in the same sense, plus penalty times the total miss bound", or 2 to the 63 where it is that or more. The table is overwritten.
-pub fn time_of(
+fn time_of(
     file: &[u8],
     trailer: Trailer,
     costs: &[u32],
@@ -95,4 +97,28 @@ pub fn time_of(
     };
     let way = longest_way(file, trailer, costs, level, table, &times);
     added(way, rounds(penalty, total), TOO_LARGE)
+}
+
+// "then 20 for a cost list of the wrong length, then 27 if the time exceeds 9,223,372,036,854,775,807; both at place 0", for a file that passes the check's own rules. The table is overwritten.
+pub fn timed(
+    file: &[u8],
+    trailer: Trailer,
+    costs: &[u32],
+    penalty: u32,
+    total: u64,
+    table: &mut [u32],
+) -> TimeAnswer
+    requires { ⌜ Laid (now file) trailer ⌝ }
+    requires { ⌜ Shaped (caseOf (now file) trailer) ⌝ }
+    requires { ⌜ mostNodes ≤ length (now table) ⌝ }
+    ensures { λ r. ⌜ r ≡ answerFor (caseOf (now (file .entry)) trailer) (now (costs .entry)) penalty total ⌝ }
+{
+    if costs.len() != trailer.nodes as usize {
+        return TimeAnswer::Refused(paper::refuse(20, 0));
+    }
+    let time = time_of(file, trailer, costs, penalty, total, table);
+    if TOO_LARGE <= time {
+        return TimeAnswer::Refused(paper::refuse(27, 0));
+    }
+    TimeAnswer::Time(time)
 }
