@@ -13,6 +13,6 @@ use Rattle.paper.specs.Files.{u16At, u32At, trailerOf, visitsBy, nodeAt,
 use Rattle.paper.specs.Times.{stepLoop, stepFirst, stepTime, wayBefore, wayTo, ways, longestWay, entryTime, loopTimes, longest, graphTime}
 use Rattle.paper.specs.Checked.{paperFile}
 
-pub paper-time : let e = readCase (paperFile 1) in graphTime e (λ v. getD (3 ∷ 5 ∷ 7 ∷ 2 ∷ []) v 0) 100 (totalBound e) ≡ 3 + 10 * (5 + 7) + 2 + 100 * 4
+pub paper-time : let e = readCase (paperFile 1) in graphTime e (λ v. getD (3 ∷ 5 ∷ 7 ∷ 2 ∷ []) v 0) 100 (totalBound e 0) ≡ 3 + 10 * (5 + 7) + 2 + 100 * 4
 unfolding leastFrom least some sumTo chain lowestTo highestTo inTurn setCount inside rangeOf around atMost headerVisits innermost count outer entriesOf entries ceil boundOf floorOf covers counts entered factBound lives uncovered sumOf A M floorAt setBound totalBound u16At u32At trailerOf loopFields loopSize visitsBy nodeAt fromAt toAt loopAt factEnd factPlace caseOf stepLoop stepFirst stepTime wayBefore wayTo ways longestWay entryTime loopTimes longest graphTime
 paper-time = refl

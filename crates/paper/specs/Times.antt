@@ -5,17 +5,20 @@ use mathlib.Core.Path.{_≡_}
 use mathlib.Core.Bool.{true, cond, not, _&&_}
 use mathlib.Core.List.{List, [], _∷_}
 use lib.Dec.{eqb, ltb, leb}
-use lib.ListN.{getD}
+use lib.ListN.{length, getD}
 use Rattle.paper.specs.declared.Verdict.{Verdict}
 use Rattle.paper.specs.declared.Verdict.the-variants.{Accepted, Refused}
 use Rattle.paper.specs.declared.TimeAnswer.{TimeAnswer}
 use Rattle.paper.specs.declared.TimeAnswer.the-variants as TimeAnswers
-use Rattle.paper.specs.Rules.{rule}
+use Rattle.paper.specs.Rules.{rule, follow}
 use Rattle.paper.specs.Lists.{least, bit, highestTo, inTurn}
 use Rattle.paper.specs.Traces.{Content}
 use Rattle.paper.specs.Cases.{Case, inside}
 use Rattle.paper.specs.Walks.{Edge, Walk, KeepsLimits}
 use Rattle.paper.specs.Runs.{LegalContent, Event, walkOf, interruptions, run, misses}
+use Rattle.paper.specs.Bounds.{totalBound}
+use Rattle.paper.specs.Files.{readCase}
+use Rattle.paper.specs.Verdicts.{fileVerdict}
 
 -- "the sum of its node costs"
 abbrev pub spent : (ℕ → ℕ) → List ℕ → ℕ
@@ -97,6 +100,19 @@ timeRules nodes costs time rest = rule 20 0 (not (eqb costs nodes)) (rule 27 0 (
 abbrev pub timeAnswer : Verdict → ℕ → TimeAnswer
 timeAnswer Accepted time = TimeAnswers.Time time
 timeAnswer (Refused r) time = TimeAnswers.Refused r
+
+-- "With a 32-bit cost for each node and a 32-bit penalty for each miss, give a time for the whole graph": that of a file, "for the given p".
+module _ (f costs : List ℕ) (penalty p : ℕ) where
+  unfoldable pub fileTime : ℕ
+  fileTime = graphTime (readCase f) (λ v. getD costs v 0) penalty (totalBound (readCase f) p)
+
+  -- the refusals, "the check's own but its 20" first
+  unfoldable pub timeVerdict : Verdict
+  timeVerdict = follow (fileVerdict f) (timeRules (readCase f .nodes) (length costs) fileTime Accepted)
+
+  -- "Only the time is returned."
+  unfoldable pub fileTimeAnswer : TimeAnswer
+  fileTimeAnswer = timeAnswer timeVerdict fileTime
 
 -- "For every walk of demand 3, the sum of its node costs and penalties is no larger": every placing of at most p interruptions, and any legal content after each.
 abbrev pub TimeHolds : Case → ℕ → (ℕ → ℕ) → ℕ → ℕ → Type 0

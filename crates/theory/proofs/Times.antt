@@ -12,7 +12,7 @@ use mathlib.Core.List.{List, [], _∷_}
 use Rattle.paper.specs.Lists.{bit}
 use Rattle.paper.specs.Cases.{Case}
 use Rattle.paper.specs.Walks.{Walk, KeepsLimits, outside}
-use Rattle.paper.specs.Runs.{run, misses}
+use Rattle.paper.specs.Runs.{walkOf, run, misses}
 use Rattle.paper.specs.Times.{spent, timeOf, longest, graphTime, TimeHolds}
 use Rattle.paper.specs.Bounds.{totalBound}
 use Rattle.paper.proofs.Says.{Says, holds, fails}
@@ -107,6 +107,7 @@ module _ (e : Case) (s : SoundGraph e) (cost : ℕ → ℕ) (w : List ℕ) (walk
   unfolding graphTime
   time-le some-node penalty n total h = omega (arith, spent-le some-node, mul-le-mul-left penalty h)
 
-pub time-holds : (e : Case) → Sound e → (cost : ℕ → ℕ) (penalty : ℕ) → TimeHolds e cost penalty (graphTime e cost penalty (totalBound e))
-time-holds e s cost penalty w walk kept c legal =
-    time-le e (s .graph) cost w walk kept (s .nodes) penalty (misses (λ a. true) (run e c w)) (totalBound e) (total-holds e s w walk kept c legal)
+pub time-holds : (e : Case) → Sound e → (p : ℕ) (cost : ℕ → ℕ) (penalty : ℕ) → TimeHolds e p cost penalty (graphTime e cost penalty (totalBound e p))
+time-holds e s p cost penalty r walk kept few c legal left legals =
+    time-le e (s .graph) cost (walkOf r) walk kept (s .nodes) penalty (misses (λ a. true) (run e c left r)) (totalBound e p)
+    (total-holds e s p r walk kept few c legal left legals)
