@@ -88,23 +88,6 @@ uint8_t bolgverk_find(const uint8_t *file, size_t file_length, uint16_t scope, u
 uint8_t bolgverk_salvage(const uint8_t *file, size_t file_length, uint8_t *out, size_t out_length, uint64_t *dropped, size_t dropped_length,
                          uint64_t *length, uint64_t *count, uint64_t *place);
 
-/* The time of a case file's graph in cycles: no walk from node 0 that keeps the loop limits takes longer, whatever legal content the cache has at the start and
- * after each interruption, where each visit takes its node's cost and each miss the penalty on top. Inside a loop the longest way from its first node along forward
- * edges, each inner loop one step of its own time, is taken as often as the loop's bound says; W is not used. To the longest way from node 0 the penalty times the
- * total of bolgverk_check is added. This assumes that hits and misses only add: a core where a hit can cost more than a miss is not covered. What the interruptions
- * themselves take is not counted.
- *   file, file_length        the file's bytes; only read
- *   costs, costs_length      the cycles of one visit of each node, its fetch a hit; only read. As many as the file has nodes
- *   penalty                  the cycles that a miss takes beyond a hit
- *   interruptions            how often a walk is interrupted at most, as in bolgverk_check
- *   cycles                   gets the time, if nothing is refused: at most 9,223,372,036,854,775,807
- *   place                    gets the refusal's place, 0 if nothing is refused; always written
- *   second                   gets the refusal's second place, as in bolgverk_check; always written
- * Returns 0, or the refusal's number: those of bolgverk_check in its order, but its 20; then 20 where costs_length is not the number of nodes, then 27. The place of
- * these two is 0. */
-uint8_t bolgverk_time(const uint8_t *file, size_t file_length, const uint32_t *costs, size_t costs_length, uint32_t penalty, uint16_t interruptions,
-                      uint64_t *cycles, uint64_t *place, uint64_t *second);
-
 /* Runs a trace of block accesses from empty sets.
  *   policy, ways, sets       the cache
  *   blocks, blocks_length    the accesses in order; only read
@@ -149,6 +132,23 @@ uint8_t bolgverk_set_of(uint16_t block, uint8_t sets, uint8_t *set);
  *   place                    gets the refusal's place, 0 if nothing is refused; always written
  * Returns 0, or the refusal's number: 3 where sets is not 1 to 64, 21 for block 65,535, tested in this order. */
 uint8_t bolgverk_all_ways(uint8_t sets, const uint16_t *blocks, size_t blocks_length, uint64_t counts[8], uint64_t *place);
+
+/* The time of a case file's graph in cycles: no walk from node 0 that keeps the loop limits takes longer, whatever legal content the cache has at the start and
+ * after each interruption, where each visit takes its node's cost and each miss the penalty on top. Inside a loop the longest way from its first node along forward
+ * edges, each inner loop one step of its own time, is taken as often as the loop's bound says; W is not used. To the longest way from node 0 the penalty times the
+ * total of bolgverk_check is added. This assumes that hits and misses only add: a core where a hit can cost more than a miss is not covered. What the interruptions
+ * themselves take is not counted.
+ *   file, file_length        the file's bytes; only read
+ *   costs, costs_length      the cycles of one visit of each node, its fetch a hit; only read. As many as the file has nodes
+ *   penalty                  the cycles that a miss takes beyond a hit
+ *   interruptions            how often a walk is interrupted at most, as in bolgverk_check
+ *   cycles                   gets the time, if nothing is refused: at most 9,223,372,036,854,775,807
+ *   place                    gets the refusal's place, 0 if nothing is refused; always written
+ *   second                   gets the refusal's second place, as in bolgverk_check; always written
+ * Returns 0, or the refusal's number: those of bolgverk_check in its order, but its 20; then 20 where costs_length is not the number of nodes, then 27. The place of
+ * these two is 0. */
+uint8_t bolgverk_time(const uint8_t *file, size_t file_length, const uint32_t *costs, size_t costs_length, uint32_t penalty, uint16_t interruptions,
+                      uint64_t *cycles, uint64_t *place, uint64_t *second);
 
 /* The refusals, in README.md's words: number, what is wrong, the place, the second place. The least places where it holds are given; of 17, 24 and 25,
  * which stand together before 18, the least edge decides.
