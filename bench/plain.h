@@ -27,3 +27,5 @@ uint8_t plain_salvage(const uint8_t *file, size_t file_length, uint8_t *out, siz
                       uint64_t *length, uint64_t *count, uint64_t *place);
 
 uint8_t plain_all_ways(uint8_t sets, const uint16_t *blocks, size_t blocks_length, uint64_t counts[8], uint64_t *place);
+uint8_t plain_time(const uint8_t *file, size_t file_length, const uint32_t *costs, size_t costs_length, uint32_t penalty, uint16_t interruptions,
+                   uint64_t *cycles, uint64_t *place, uint64_t *second);

@@ -1,4 +1,4 @@
-# Numbers as bytes, little-endian, and a row of evidence: for examples/make, examples/pipe-write, examples/pipe-find, examples/pipe-salvage and examples/pipe-ways, which source it.
+# Numbers as bytes, little-endian, and a row of evidence: for examples/make, examples/pipe-write, examples/pipe-find, examples/pipe-salvage, examples/pipe-ways and examples/pipe-time, which source it.
 # shellcheck shell=sh
 
 # shellcheck disable=SC2059

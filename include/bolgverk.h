@@ -7,7 +7,7 @@
  *   - memory that an operation writes overlaps nothing else that is passed to it, and nothing else touches it during the call.
  *
  * A refusal has a number, a place and a second place, as in the table at the end. A refused call writes no lent memory but *place and
- * *second. Only the refusals of the check and the writer have a second place that is not 0, so only these two hand one over.
+ * *second. Only the refusals of the check, the writer and the time have a second place that is not 0, so only these three hand one over.
  * Policies: 0 LRU, 1 FIFO, 2 NMRU, 3 tree. Ways: 1 to 8 (NMRU 2 to 8, tree 2, 4 or 8). Sets: 1 to 64. Blocks: 0 to 65,534; 65,535 means none.
  */
 #ifndef BOLGVERK_H
@@ -133,6 +133,23 @@ uint8_t bolgverk_set_of(uint16_t block, uint8_t sets, uint8_t *set);
  * Returns 0, or the refusal's number: 3 where sets is not 1 to 64, 21 for block 65,535, tested in this order. */
 uint8_t bolgverk_all_ways(uint8_t sets, const uint16_t *blocks, size_t blocks_length, uint64_t counts[8], uint64_t *place);
 
+/* The time of a case file's graph in cycles: no walk from node 0 that keeps the loop limits takes longer, whatever legal content the cache has at the start and
+ * after each interruption, where each visit takes its node's cost and each miss the penalty on top. Inside a loop the longest way from its first node along forward
+ * edges, each inner loop one step of its own time, is taken as often as the loop's bound says; W is not used. To the longest way from node 0 the penalty times the
+ * total of bolgverk_check is added. This assumes that hits and misses only add: a core where a hit can cost more than a miss is not covered. What the interruptions
+ * themselves take is not counted.
+ *   file, file_length        the file's bytes; only read
+ *   costs, costs_length      the cycles of one visit of each node, its fetch a hit; only read. As many as the file has nodes
+ *   penalty                  the cycles that a miss takes beyond a hit
+ *   interruptions            how often a walk is interrupted at most, as in bolgverk_check
+ *   cycles                   gets the time, if nothing is refused: at most 9,223,372,036,854,775,807
+ *   place                    gets the refusal's place, 0 if nothing is refused; always written
+ *   second                   gets the refusal's second place, as in bolgverk_check; always written
+ * Returns 0, or the refusal's number: those of bolgverk_check in its order, but its 20; then 20 where costs_length is not the number of nodes, then 27. The place of
+ * these two is 0. */
+uint8_t bolgverk_time(const uint8_t *file, size_t file_length, const uint32_t *costs, size_t costs_length, uint32_t penalty, uint16_t interruptions,
+                      uint64_t *cycles, uint64_t *place, uint64_t *second);
+
 /* The refusals, in README.md's words: number, what is wrong, the place, the second place. The least places where it holds are given; of 17, 24 and 25,
  * which stand together before 18, the least edge decides.
  *    1  the file has fewer than 32 bytes                                                                     0              0
@@ -154,13 +171,14 @@ uint8_t bolgverk_all_ways(uint8_t sets, const uint16_t *blocks, size_t blocks_le
  *   17  a set is followed by row 9, or by a set that lacks a block                                           fact           edge
  *   18  a node that fetches the fact's block has row 8 ("many")                                              fact           node
  *   19  bytes are left between the last fact and the trailer                                                 0              0
- *   20  the lent list is too short: 321 numbers, one byte an access, the file's bytes, the rows found, or the facts dropped 0              0
+ *   20  the lent list is too short: 321 numbers, one byte an access, the file's bytes, the rows found, or the facts dropped; or the costs are not one for each node 0              0
  *   21  block 65,535 is accessed, or an address's block is above 65,534                                      access, else 0 0
  *   22  the set's state is not legal                                                                         0              0
  *   23  the line size is none of 8, 16, 32, 64, 128                                                          0              0
  *   24  row 9 ("not since b") follows a fetch of the fact's block                                            fact           edge
  *   25  row 8 ("many") is followed by another row                                                            fact           edge
  *   26  a node other than 0 that no edges lead to from node 0                                                node           0
+ *   27  the time is above 9,223,372,036,854,775,807                                                          0              0
  */
 
 #ifdef __cplusplus

@@ -4,11 +4,27 @@ mod options;
 
 use options::{Options, USAGE};
 use second::compare::bounds::Programs;
-use second::compare::{bounds, caches, evidence, files, finds, frames, salvages, walks, ways, writes};
+use second::compare::{bounds, caches, evidence, files, finds, frames, salvages, times, walks, ways, writes};
 use second::must_break;
 use second::pipe::Pipe;
 use std::process::ExitCode;
 use std::time::Instant;
+
+/// What `all` stands for.
+const ALL: [&str; 12] = [
+    "caches",
+    "frames",
+    "files",
+    "writes",
+    "bounds",
+    "evidence",
+    "finds",
+    "salvages",
+    "ways",
+    "times",
+    "walks",
+    "must-break",
+];
 
 fn main() -> ExitCode {
     let options = match options::read(std::env::args().skip(1)) {
@@ -16,21 +32,8 @@ fn main() -> ExitCode {
         Ok(_) => return usage("no part is named"),
         Err(fault) => return usage(&fault),
     };
-    let all = [
-        "caches",
-        "frames",
-        "files",
-        "writes",
-        "bounds",
-        "evidence",
-        "finds",
-        "salvages",
-        "ways",
-        "walks",
-        "must-break",
-    ];
     let named = options.parts.iter().map(String::as_str);
-    let parts: Vec<&str> = named.flat_map(|part| if part == "all" { all.to_vec() } else { vec![part] }).collect();
+    let parts: Vec<&str> = named.flat_map(|part| if part == "all" { ALL.to_vec() } else { vec![part] }).collect();
     for part in parts {
         let begin = Instant::now();
         println!("== {part}, seed {}", options.settings.seed);
@@ -64,6 +67,7 @@ fn run(part: &str, options: &Options) -> Result<(), Failure> {
         "finds" => finds::run(pipe()?, settings),
         "salvages" => salvages::run(pipe()?, settings),
         "ways" => ways::run(pipe()?, settings),
+        "times" => times::run(pipe()?, settings),
         "walks" => walks::run(pipe()?, settings),
         "must-break" => must_break::run(options.pipe.as_ref()),
         "search" => must_break::search(settings),

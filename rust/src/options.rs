@@ -18,8 +18,9 @@ parts:
   finds       facts that are found in graphs without them: limits and rows, and refusals
   salvages    files with several bad facts, cut ones and strays: what is left of them, what is dropped, and refusals
   ways        all ways in one pass: the eight counts beside eight trace runs, and refusals
+  times       times of files for costs and penalties, sound and damaged, and refusals; no walk takes longer, and some take as long
   walks       no walk through an accepted file, interrupted at most p times, misses more than its bounds for p say
-  must-break  wrong bounds, each with a file, a walk and a content that exceed it, and wrong salvages (`pipe` may be left out)
+  must-break  wrong bounds and times, each with a file, a walk and a content that exceed it, and wrong salvages (`pipe` may be left out)
   search      looks for such files anew, with random walks (needs no `pipe`)
   all         all of these but search
 In each part but search every file that passes the layout rules is also taken apart, and the writer must make the same bytes of its lists again.
@@ -41,6 +42,7 @@ options:
   --searched N  small graphs that facts are found in (1000)
   --salvaged N  files that are salvaged (4000)
   --counted N   traces that are counted for all ways (2000)
+  --timed N     files whose time is asked for (8000)
 ";
 
 pub struct Options {
@@ -64,6 +66,7 @@ pub fn read(arguments: impl Iterator<Item = String>) -> Result<Options, String> 
         searched: 1_000,
         salvaged: 4_000,
         counted: 2_000,
+        timed: 8_000,
         library: None,
     };
     let mut options = Options { settings, pipe: None, bounds: None, bounds0: None, parts: Vec::new() };
@@ -109,6 +112,7 @@ impl Options {
             "--searched" => self.settings.searched = number,
             "--salvaged" => self.settings.salvaged = number,
             "--counted" => self.settings.counted = number,
+            "--timed" => self.settings.timed = number,
             _ => return Err(format!("no option {option}")),
         }
         Ok(())

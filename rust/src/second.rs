@@ -1,6 +1,6 @@
 //! The second simulator's answer to any request of `pipe`.
 
-use crate::case::{check, find, salvage, write, Paper};
+use crate::case::{check, find, salvage, time, write, Paper};
 use crate::machine::{address, step, trace, ways, Outcome};
 use crate::pipe::{Answer, Body, Request};
 use crate::refusal::Refusal;
@@ -56,6 +56,9 @@ pub fn answer(request: &Request) -> Answer {
         Request::Ways { sets, blocks } => {
             let refused = Body::Ways { counts: vec![0; 8] };
             outcome(ways::all_ways(*sets, blocks), refused, |counts| Body::Ways { counts: counts.to_vec() })
+        }
+        Request::Time { interruptions, penalty, file, costs } => {
+            outcome(time(file, costs, *penalty, *interruptions, &Paper), Body::Time(0), Body::Time)
         }
     }
 }

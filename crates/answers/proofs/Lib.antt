@@ -3,3 +3,4 @@ pub mod AskingWrites
 pub mod AskingFinds
 pub mod AskingSalvages
 pub mod AskingWays
+pub mod AskingTimes

@@ -5,6 +5,7 @@ pub mod finds;
 pub mod salvages;
 pub mod sets;
 pub mod steps;
+pub mod times;
 pub mod traces;
 pub mod ways;
 pub mod writes;
@@ -40,6 +41,9 @@ pub const OUT: usize = 2150000;
 // The bytes of a file that is salvaged, and those that its rest is lent.
 pub const SALVAGE: usize = 1048576;
 
+// The costs of a time.
+pub const COSTS: usize = 4096;
+
 // The bytes have room for what stands before the lent memory, then for the lent memory. A check's takes most.
 pub const ROOM: usize = places::LENT_AT + FILE + 8 * NUMBERS;
 
@@ -58,6 +62,7 @@ pub fn argument_bytes(operation: u8) -> usize
         7 => places::FIND_SIZE,
         8 => places::SALVAGE_SIZE,
         9 => places::WAYS_SIZE,
+        10 => places::TIME_SIZE,
         _ => 0,
     }
 }

@@ -16,16 +16,18 @@ use Rattle.paper.specs.declared.WriteAnswer.{WriteAnswer}
 use Rattle.paper.specs.declared.FindAnswer.{FindAnswer}
 use Rattle.paper.specs.declared.SalvageAnswer.{SalvageAnswer}
 use Rattle.paper.specs.declared.WaysAnswer.{WaysAnswer}
+use Rattle.paper.specs.declared.TimeAnswer.{TimeAnswer}
 use Rattle.paper.specs.Operations.{stepAnswer, blockAnswer, setAnswer}
 use Rattle.paper.specs.Traces.{traceRun}
 use Rattle.paper.specs.Verdicts.{verdict, lentAfter}
 use Rattle.paper.specs.Writing.{writeVerdict, writeAnswer}
 use Rattle.paper.specs.Salvaging.{salvageVerdict, salvageAnswer}
 use Rattle.paper.specs.AllWays.{allWays}
+use Rattle.paper.specs.Times.{fileTimeAnswer}
 use Rattle.lists.specs.Listings.{offered}
-use Rattle.paper.proofs.AnswerLaws.{same-verdict, same-trace, same-outcome, same-block, same-set, same-write, same-find, same-salvage, same-ways}
+use Rattle.paper.proofs.AnswerLaws.{same-verdict, same-trace, same-outcome, same-block, same-set, same-write, same-find, same-salvage, same-ways, same-time}
 use Rattle.theory.proofs.FoundOnce.{outcome-once}
-use Rattle.bolgverk.specs.Promises.{StepPromise, BlockPromise, SetPromise, TracePromise, CheckPromise, WritePromise, FindPromise, SalvagePromise, WaysPromise}
+use Rattle.bolgverk.specs.Promises.{StepPromise, BlockPromise, SetPromise, TracePromise, CheckPromise, WritePromise, FindPromise, SalvagePromise, WaysPromise, TimePromise}
 
 answer-of : (r r′ : StepAnswer) → r .state ≡ r′ .state → r .outcome ≡ r′ .outcome → r ≡ r′
 answer-of r r′ s o =
@@ -105,3 +107,10 @@ module _ (sets : ℕ) (blocks : List ℕ) where
 
   pub ways-determined : (r r′ : WaysAnswer) → WaysPromise sets blocks r → WaysPromise sets blocks r′ → r ≡ r′
   ways-determined r r′ p q = ways-answer r p ∙ sym (ways-answer r′ q)
+
+module _ (file costs : List ℕ) (penalty interruptions : ℕ) where
+  pub time-answer : (r : TimeAnswer) → TimePromise file costs penalty interruptions r → r ≡ fileTimeAnswer file costs penalty interruptions
+  time-answer r p = same-time _ _ (p .told)
+
+  pub time-determined : (r r′ : TimeAnswer) → TimePromise file costs penalty interruptions r → TimePromise file costs penalty interruptions r′ → r ≡ r′
+  time-determined r r′ p q = time-answer r p ∙ sym (time-answer r′ q)

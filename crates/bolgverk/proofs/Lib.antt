@@ -1,3 +1,4 @@
 pub mod Determined
 pub mod Kept
 pub mod Checking
+pub mod Timing

@@ -16,8 +16,10 @@ use Rattle.paper.specs.declared.WriteAnswer.{WriteAnswer}
 use Rattle.paper.specs.declared.FindAnswer.{FindAnswer}
 use Rattle.paper.specs.declared.SalvageAnswer.{SalvageAnswer}
 use Rattle.paper.specs.declared.WaysAnswer.{WaysAnswer}
+use Rattle.paper.specs.declared.TimeAnswer.{TimeAnswer}
+use Rattle.paper.specs.declared.TimeAnswer.the-variants.{Time}
 use Rattle.paper.specs.declared.Verdict.the-variants.{Accepted}
-use Rattle.paper.specs.Answers.{toldVerdict, toldTrace, toldOutcome, toldBlock, toldSet, toldWrite, toldFind, toldSalvage, toldWays}
+use Rattle.paper.specs.Answers.{toldVerdict, toldTrace, toldOutcome, toldBlock, toldSet, toldWrite, toldFind, toldSalvage, toldWays, toldTime}
 use Rattle.paper.specs.Operations.{stepAnswer, blockAnswer, setAnswer}
 use Rattle.paper.specs.Traces.{traceRun}
 use Rattle.paper.specs.Files.{readCase}
@@ -28,6 +30,7 @@ use Rattle.paper.specs.Finding.{FindOutcome}
 use Rattle.paper.specs.Salvaging.{salvaged, droppedList, salvageVerdict, salvageAnswer, lentBy, SalvageHolds, RemovalHolds}
 use Rattle.paper.specs.Policies.{lruPolicy}
 use Rattle.paper.specs.AllWays.{allWays, said}
+use Rattle.paper.specs.Times.{fileTimeAnswer, TimeHolds}
 use Rattle.lists.specs.Listings.{offered}
 
 -- A step's answer is a state and an outcome.
@@ -85,3 +88,8 @@ pub record WaysPromise (sets : ℕ) (blocks : List ℕ) (r : WaysAnswer) : Type 
   pub counts : r .counts ≡ allWays sets blocks .counts
   pub runs : (j : ℕ) → j < 8 → (lent : List ℕ) → length blocks ≤ length lent → said r j ≡ traceRun lruPolicy (suc j) sets blocks lent .answer
   pub falls : (j : ℕ) → suc j < 8 → getD (r .counts) (suc j) 0 ≤ getD (r .counts) j 0
+
+-- "With a 32-bit cost for each node and a 32-bit penalty for each miss, give a time for the whole graph", for at most p interruptions: "For every walk of demand 3, the sum of its node costs and penalties is no larger" (`holds`).
+pub record TimePromise (file costs : List ℕ) (penalty p : ℕ) (r : TimeAnswer) : Type 0 where
+  pub told : toldTime r ≡ toldTime (fileTimeAnswer file costs penalty p)
+  pub holds : (time : ℕ) → r ≡ Time time → TimeHolds (readCase file) p (λ v. getD costs v 0) penalty time

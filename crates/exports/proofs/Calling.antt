@@ -4,7 +4,9 @@ use native.Mathlib.Omega.{arith}
 use mathlib.Core.Path.{_≡_, refl, sym, ap, subst}
 use mathlib.Core.List.{List}
 use mathlib.Core.Option.{none}
-use lib.ListN.{length}
+use mathlib.Core.Bool.{Bool, true, false, not, cond}
+use lib.ListN.{length, getD}
+use lib.Dec.{eqb, ltb}
 use Rattle.paper.specs.declared.Verdict.{Verdict}
 use Rattle.paper.specs.declared.Verdict.the-variants.{Accepted, Refused}
 use Rattle.paper.specs.declared.TraceAnswer.{TraceAnswer}
@@ -15,12 +17,18 @@ use Rattle.paper.specs.declared.WriteAnswer.{WriteAnswer}
 use Rattle.paper.specs.declared.FindAnswer.{FindAnswer}
 use Rattle.paper.specs.declared.SalvageAnswer.{SalvageAnswer}
 use Rattle.paper.specs.declared.WaysAnswer.{WaysAnswer}
-use Rattle.paper.specs.Answers.{Told, toldVerdict, toldTrace, toldOutcome, toldBlock, toldSet, toldWrite, toldFind, toldSalvage, toldWays, valueOr, limitOr, secondOr, countsOr}
+use Rattle.paper.specs.declared.TimeAnswer.{TimeAnswer}
+use Rattle.paper.specs.declared.TimeAnswer.the-variants as TimeAnswers
+use Rattle.paper.specs.Answers.{Told, toldVerdict, toldTrace, toldOutcome, toldBlock, toldSet, toldWrite, toldFind, toldSalvage, toldWays, toldTime, valueOr, limitOr, secondOr, countsOr}
 use Rattle.paper.specs.Writing.{FileContent}
+use Rattle.paper.specs.Files.{readCase}
+use Rattle.paper.specs.Rules.{rule, follow}
+use Rattle.paper.specs.Verdicts.{fileVerdict, verdict}
+use Rattle.paper.specs.Times.{mostTime, fileTime, timeRules, timeAnswer, timeVerdict, fileTimeAnswer, TimeHolds}
 use Rattle.paper.specs.Finding.{FindOutcome, refused, nothing, found}
 use Rattle.paper.proofs.RefusalLaws.{verdict-numbered, trace-numbered, step-numbered, block-numbered, set-numbered, write-numbered, find-numbered, salvage-numbered, ways-numbered}
-use Rattle.bolgverk.specs.Promises.{StepPromise, BlockPromise, SetPromise, TracePromise, CheckPromise, WritePromise, FindPromise, SalvagePromise, WaysPromise}
-use Rattle.exports.specs.Calls.{CheckCall, WriteCall, FindCall, SalvageCall, TraceCall, StepCall, BlockCall, SetCall, WaysCall}
+use Rattle.bolgverk.specs.Promises.{StepPromise, BlockPromise, SetPromise, TracePromise, CheckPromise, WritePromise, FindPromise, SalvagePromise, WaysPromise, TimePromise}
+use Rattle.exports.specs.Calls.{CheckCall, WriteCall, FindCall, SalvageCall, TraceCall, StepCall, BlockCall, SetCall, WaysCall, TimeCall}
 
 -- an answer that tells what the paper's does
 refused-as : (low : ℕ) (t t′ : Told) → t ≡ t′ → (t′ .values ≡ none → low ≤ t′ .number) → t .values ≡ none → low ≤ t .number
@@ -118,3 +126,64 @@ module _ (sets : ℕ) (blocks before : List ℕ) (r at : ℕ) (after : List ℕ)
   ways-call v p n c a =
       let k = refused-as 1 _ _ (p .told) (ways-numbered sets blocks .refused) in
       record { answer = v; promise = p; number = n; counts = c; place = a; refused = λ h. number-as 1 r _ n (k h) }
+
+-- Of the time's refusals none has the number 0: those of the check have not, and 20 and 27 are their own.
+abbrev Refuses : Verdict → Type 0
+Refuses v = toldVerdict v .values ≡ none → 1 ≤ toldVerdict v .number
+
+file-numbered : (file : List ℕ) → Refuses (fileVerdict file)
+unfolding verdict
+file-numbered file = verdict-numbered file 321 .refused
+
+rules-numbered : (nodes costs time : ℕ) → Refuses (timeRules nodes costs time Accepted)
+unfolding timeRules
+rules-numbered nodes costs time = go (not (eqb costs nodes)) (ltb mostTime time)
+  where
+    go : (a b : Bool) → toldVerdict (rule 20 0 a (rule 27 0 b Accepted)) .values ≡ none → 1 ≤ toldVerdict (rule 20 0 a (rule 27 0 b Accepted)) .number
+    go true b h = omega arith
+    go false true h = omega arith
+    go false false h =
+        let z : _≡_ {A = ℕ} 0 1 = cc in
+        absurd (omega arith)
+
+follow-numbered : (v w : Verdict) → Refuses v → Refuses w → Refuses (follow v w)
+follow-numbered Accepted w a b = b
+follow-numbered (Refused r) w a b = a
+
+answer-numbered : (v : Verdict) (time : ℕ) → Refuses v → toldTime (timeAnswer v time) .values ≡ none → 1 ≤ toldTime (timeAnswer v time) .number
+answer-numbered Accepted time n h =
+    let z : _≡_ {A = ℕ} 0 1 = cc in
+    absurd (omega arith)
+answer-numbered (Refused r) time n h = n h
+
+module _ (file costs : List ℕ) (penalty interruptions before r most at within : ℕ) where
+  time-numbered : toldTime (fileTimeAnswer file costs penalty interruptions) .values ≡ none → 1 ≤ toldTime (fileTimeAnswer file costs penalty interruptions) .number
+  unfolding fileTimeAnswer timeVerdict
+  time-numbered =
+      let x = fileTime file costs penalty interruptions in
+      let w = timeRules (readCase file .nodes) (length costs) x Accepted in
+      answer-numbered (follow (fileVerdict file) w) x (follow-numbered (fileVerdict file) w (file-numbered file) (rules-numbered (readCase file .nodes) (length costs) x))
+
+  -- where 0 is returned, the time is what was written
+  time-given : (v : TimeAnswer) → (toldTime v .values ≡ none → 1 ≤ toldTime v .number) → toldTime v .number ≡ 0 → v ≡ TimeAnswers.Time (valueOr before (toldTime v))
+  time-given (TimeAnswers.Time n) k e = refl
+  time-given (TimeAnswers.Refused why) k e =
+      let l = k refl in
+      absurd (omega arith)
+
+  pub time-call : (v : TimeAnswer) → TimePromise file costs penalty interruptions v → r ≡ toldTime v .number → most ≡ valueOr before (toldTime v) → at ≡ toldTime v .place →
+      within ≡ toldTime v .second → TimeCall file costs penalty interruptions before r most at within
+  time-call v p n m a s =
+      let k = refused-as 1 _ _ (p .told) time-numbered in
+      record {
+        answer = v;
+        promise = p;
+        number = n;
+        cycles = m;
+        place = a;
+        second = s;
+        refused = λ h. number-as 1 r _ n (k h);
+        holds = λ z.
+            subst (TimeHolds (readCase file) interruptions (λ i. getD costs i 0) penalty) (sym m)
+            (p .holds (valueOr before (toldTime v)) (time-given v k (omega arith)));
+      }

@@ -11,9 +11,10 @@ use Rattle.paper.specs.declared.WriteAnswer.{WriteAnswer}
 use Rattle.paper.specs.declared.FindAnswer.{FindAnswer}
 use Rattle.paper.specs.declared.SalvageAnswer.{SalvageAnswer}
 use Rattle.paper.specs.declared.WaysAnswer.{WaysAnswer}
-use Rattle.paper.specs.Answers.{toldVerdict, toldTrace, toldOutcome, toldBlock, toldSet, toldWrite, toldFind, toldSalvage, toldWays, valueOr, limitOr, secondOr, countsOr}
-use Rattle.bolgverk.proofs.Determined.{step-determined, block-determined, set-determined, trace-determined, check-determined, write-determined, find-determined, salvage-determined, ways-determined}
-use Rattle.exports.specs.Calls.{CheckCall, WriteCall, FindCall, SalvageCall, TraceCall, StepCall, BlockCall, SetCall, WaysCall}
+use Rattle.paper.specs.declared.TimeAnswer.{TimeAnswer}
+use Rattle.paper.specs.Answers.{toldVerdict, toldTrace, toldOutcome, toldBlock, toldSet, toldWrite, toldFind, toldSalvage, toldWays, toldTime, valueOr, limitOr, secondOr, countsOr}
+use Rattle.bolgverk.proofs.Determined.{step-determined, block-determined, set-determined, trace-determined, check-determined, write-determined, find-determined, salvage-determined, ways-determined, time-determined}
+use Rattle.exports.specs.Calls.{CheckCall, WriteCall, FindCall, SalvageCall, TraceCall, StepCall, BlockCall, SetCall, WaysCall, TimeCall}
 
 -- two results that are the same function of answers that are the same
 same : {A B : Type 0} (f : A → B) {v v′ : A} {x x′ : B} → v ≡ v′ → x ≡ f v → x′ ≡ f v′ → x ≡ x′
@@ -107,4 +108,15 @@ module _ (sets : ℕ) (blocks before : List ℕ) (r r′ at at′ : ℕ) (after 
         same (λ (v : WaysAnswer). toldWays v .number) e (p .number) (q .number),
         same (λ (v : WaysAnswer). toldWays v .place) e (p .place) (q .place),
         same (λ (v : WaysAnswer). countsOr before (toldWays v)) e (p .counts) (q .counts),
+      )
+
+module _ (file costs : List ℕ) (penalty interruptions before r r′ most most′ at at′ within within′ : ℕ) where
+  pub time-call-determined : TimeCall file costs penalty interruptions before r most at within → TimeCall file costs penalty interruptions before r′ most′ at′ within′ →
+      (r ≡ r′) × (most ≡ most′) × (at ≡ at′) × (within ≡ within′)
+  time-call-determined p q =
+      let e = time-determined file costs penalty interruptions _ _ (p .promise) (q .promise) in (
+        same (λ (v : TimeAnswer). toldTime v .number) e (p .number) (q .number),
+        same (λ (v : TimeAnswer). valueOr before (toldTime v)) e (p .cycles) (q .cycles),
+        same (λ (v : TimeAnswer). toldTime v .place) e (p .place) (q .place),
+        same (λ (v : TimeAnswer). toldTime v .second) e (p .second) (q .second),
       )

@@ -5,6 +5,7 @@ use Prim.Native.Nat.{ℕ, _≤_}
 use mathlib.Core.Path.{_≡_}
 use mathlib.Core.List.{List}
 use mathlib.Core.Option.{none}
+use lib.ListN.{getD}
 use Rattle.paper.specs.declared.Verdict.{Verdict}
 use Rattle.paper.specs.declared.TraceAnswer.{TraceAnswer}
 use Rattle.paper.specs.declared.StepAnswer.{StepAnswer}
@@ -14,10 +15,12 @@ use Rattle.paper.specs.declared.WriteAnswer.{WriteAnswer}
 use Rattle.paper.specs.declared.FindAnswer.{FindAnswer}
 use Rattle.paper.specs.declared.SalvageAnswer.{SalvageAnswer}
 use Rattle.paper.specs.declared.WaysAnswer.{WaysAnswer}
-use Rattle.paper.specs.Answers.{toldVerdict, toldTrace, toldOutcome, toldBlock, toldSet, toldWrite, toldFind, toldSalvage, toldWays, valueOr, limitOr, secondOr, countsOr}
+use Rattle.paper.specs.declared.TimeAnswer.{TimeAnswer}
+use Rattle.paper.specs.Answers.{toldVerdict, toldTrace, toldOutcome, toldBlock, toldSet, toldWrite, toldFind, toldSalvage, toldWays, toldTime, valueOr, limitOr, secondOr, countsOr}
 use Rattle.paper.specs.Files.{readCase}
 use Rattle.paper.specs.Demands.{Holds}
-use Rattle.bolgverk.specs.Promises.{StepPromise, BlockPromise, SetPromise, TracePromise, CheckPromise, WritePromise, FindPromise, SalvagePromise, WaysPromise}
+use Rattle.paper.specs.Times.{TimeHolds}
+use Rattle.bolgverk.specs.Promises.{StepPromise, BlockPromise, SetPromise, TracePromise, CheckPromise, WritePromise, FindPromise, SalvagePromise, WaysPromise, TimePromise}
 
 -- The refusal's number, or 0; its places, or 0; the lent numbers afterwards. `holds`: demand 3's bounds, where 0 is returned; its other half is in the promise.
 pub record CheckCall (file : List ℕ) (interruptions : ℕ) (lent : List ℕ) (r at within : ℕ) (after : List ℕ) : Type 0 where
@@ -97,3 +100,14 @@ pub record WaysCall (sets : ℕ) (blocks before : List ℕ) (r at : ℕ) (after 
   pub counts : after ≡ countsOr before (toldWays answer)
   pub place : at ≡ toldWays answer .place
   pub refused : toldWays answer .values ≡ none → 1 ≤ r
+
+-- The refusal's number, or 0; its places, or 0; the time. `holds`: no walk takes longer, where 0 is returned.
+pub record TimeCall (file costs : List ℕ) (penalty interruptions before r most at within : ℕ) : Type 0 where
+  pub answer : TimeAnswer
+  pub promise : TimePromise file costs penalty interruptions answer
+  pub number : r ≡ toldTime answer .number
+  pub cycles : most ≡ valueOr before (toldTime answer)
+  pub place : at ≡ toldTime answer .place
+  pub second : within ≡ toldTime answer .second
+  pub refused : toldTime answer .values ≡ none → 1 ≤ r
+  pub holds : r ≡ 0 → TimeHolds (readCase file) interruptions (λ v. getD costs v 0) penalty most

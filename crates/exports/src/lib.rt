@@ -1,6 +1,6 @@
 // The public operations under C names. include/bolgverk.h says the same to a C compiler.
 // A slice passes as a pointer and a length, a number to be written as a pointer. No function has a `requires`.
-ghost use Rattle.exports.specs.Calls.{CheckCall, WriteCall, FindCall, SalvageCall, TraceCall, StepCall, BlockCall, SetCall, WaysCall};
+ghost use Rattle.exports.specs.Calls.{CheckCall, WriteCall, FindCall, SalvageCall, TraceCall, StepCall, BlockCall, SetCall, WaysCall, TimeCall};
 use paper::Address;
 use paper::Block;
 use paper::SetState;
@@ -151,4 +151,21 @@ pub extern "C" fn bolgverk_all_ways(
     ensures { λ r. ⌜ WaysCall sets (now (blocks .entry)) (now (counts .entry)) r (now (place .exit)) (now (counts .exit)) ⌝ }
 {
     telling::all_ways(bolgverk::all_ways(sets, blocks), counts, place)
+}
+
+// The refusal's number, or 0; `place` and `second` get the refusal's places, or 0; `cycles` gets the time, where nothing is refused.
+#[no_mangle]
+pub extern "C" fn bolgverk_time(
+    file: &[u8],
+    costs: &[u32],
+    penalty: u32,
+    interruptions: u16,
+    cycles: &mut u64,
+    place: &mut u64,
+    second: &mut u64,
+) -> u8
+    ensures { λ r. ⌜ TimeCall (now (file .entry)) (now (costs .entry)) penalty interruptions (now (cycles .entry)) r (now (cycles .exit)) (now (place .exit)) (now (second .exit)) ⌝ }
+{
+    let answer = bolgverk::time(file, costs, penalty, interruptions);
+    telling::time(answer, cycles, place, second)
 }

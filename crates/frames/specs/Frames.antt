@@ -22,6 +22,8 @@ use Rattle.paper.specs.declared.FindAnswer.the-variants as FindAnswers
 use Rattle.paper.specs.declared.SalvageAnswer.{SalvageAnswer}
 use Rattle.paper.specs.declared.SalvageAnswer.the-variants as SalvageAnswers
 use Rattle.paper.specs.declared.WaysAnswer.{WaysAnswer}
+use Rattle.paper.specs.declared.TimeAnswer.{TimeAnswer}
+use Rattle.paper.specs.declared.TimeAnswer.the-variants as TimeAnswers
 use Rattle.paper.specs.declared.Verdict.{Verdict}
 use Rattle.paper.specs.declared.Verdict.the-variants as Verdicts
 use Rattle.paper.specs.Answers.{refuse, toldFind}
@@ -34,6 +36,7 @@ use Rattle.paper.specs.Writing.{FileContent, writeVerdict, writeAnswer, outAfte
 use Rattle.paper.specs.Finding.{FindOutcome}
 use Rattle.paper.specs.Salvaging.{salvaged, droppedList, salvageVerdict, salvageAnswer, lentBy}
 use Rattle.paper.specs.AllWays.{allWays}
+use Rattle.paper.specs.Times.{fileTimeAnswer}
 use Rattle.frames.specs.declared.Head.{Head}
 use Rattle.frames.specs.declared.SalvageHead.{SalvageHead}
 use Rattle.frames.specs.Little.{little, littles, u16s, u32s, u64s}
@@ -265,7 +268,8 @@ argumentBytes operation =
     (cond (eqb operation 5) (sizeOf Places.checkFields)
     (cond (eqb operation 6) (sizeOf Places.writeFields)
     (cond (eqb operation 7) (sizeOf Places.findFields)
-    (cond (eqb operation 8) (sizeOf Places.salvageFields) (cond (eqb operation 9) (sizeOf Places.waysFields) 0))))))))
+    (cond (eqb operation 8) (sizeOf Places.salvageFields)
+    (cond (eqb operation 9) (sizeOf Places.waysFields) (cond (eqb operation 10) (sizeOf Places.timeFields) 0)))))))))
 
 -- "the byte 0, then one byte that says why, then the number of frames answered before it, u64"
 unfoldable pub lastFrame : ℕ → ℕ → List ℕ
@@ -293,3 +297,17 @@ waysOf v counts = record { counts = counts; verdict = v }
 -- "eight counts u64 each (refused: 0)": after a head that has no value, as a check's
 unfoldable pub waysFrame : WaysAnswer → List ℕ
 waysFrame a = front 9 0 (checkHead (a .verdict)) ++ littles 8 (a .counts)
+
+-- "the time u64 (refused: 0)"
+abbrev pub timeHead : TimeAnswer → Head
+timeHead (TimeAnswers.Time n) = found n
+timeHead (TimeAnswers.Refused r) = refusedWith r 0
+
+abbrev pub timeFrame : TimeAnswer → List ℕ
+timeFrame a = front 10 Places.timeWidth (timeHead a)
+
+-- "interruptions u16, penalty u32, file bytes n u32, costs c u32, then n bytes, then c costs u32 each"
+unfoldable pub timeAsked : List ℕ → List ℕ → TimeAnswer
+timeAsked r lent =
+    let n = u32At r Places.timeFile in
+    fileTimeAnswer (take n lent) (u32s (drop n lent) (u32At r Places.timeCosts)) (u32At r Places.timePenalty) (u16At r 0)

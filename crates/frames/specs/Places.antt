@@ -168,3 +168,23 @@ waysAccesses = offset waysFields 1
 -- "eight counts u64 each": the answer that has them is longer than what stands before lent memory, and has bytes of its own
 abbrev pub countsSize : ℕ
 countsSize = headSize + 8 * bits64
+
+-- "interruptions u16, penalty u32, file bytes n u32, costs c u32"
+abbrev pub timeFields : List ℕ
+timeFields = bits16 ∷ bits32 ∷ bits32 ∷ bits32 ∷ []
+
+abbrev pub timePenalty : ℕ
+timePenalty = offset timeFields 1
+
+abbrev pub timeFile : ℕ
+timeFile = offset timeFields 2
+
+abbrev pub timeCosts : ℕ
+timeCosts = offset timeFields 3
+
+-- "the time u64": its answer has bytes of its own too
+abbrev pub timeWidth : ℕ
+timeWidth = bits64
+
+abbrev pub timeSize : ℕ
+timeSize = headSize + timeWidth

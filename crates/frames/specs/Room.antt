@@ -31,6 +31,10 @@ found = 16384
 abbrev pub salvage : ℕ
 salvage = 1048576
 
+-- "A time has a file as a check has, and at most 4,096 costs"
+abbrev pub costs : ℕ
+costs = 4096
+
 -- "a file has at most 4,300,000 bytes": a check's lent memory takes most.
 abbrev pub bytes : ℕ
 bytes = lentAt + 4300000 + 8 * numbers

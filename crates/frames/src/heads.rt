@@ -7,6 +7,7 @@ use paper::Outcome;
 use paper::Refusal;
 use paper::SalvageAnswer;
 use paper::SetAnswer;
+use paper::TimeAnswer;
 use paper::TraceAnswer;
 use paper::Verdict;
 use paper::WriteAnswer;
@@ -108,5 +109,14 @@ pub fn salvage(answer: SalvageAnswer) -> SalvageHead
             head: refused(r, 0),
             count: 0,
         },
+    }
+}
+
+pub fn time(answer: TimeAnswer) -> Head
+    ensures { λ r. ⌜ r ≡ Frames.timeHead answer ⌝ }
+{
+    match answer {
+        TimeAnswer::Time(cycles) => found(cycles),
+        TimeAnswer::Refused(r) => refused(r, 0),
     }
 }

@@ -115,3 +115,16 @@ pub const WAYS_SIZE: usize = 5;
 pub const WAYS_ACCESSES: usize = 1;
 
 pub const COUNTS_SIZE: usize = HEAD_SIZE + 64;
+
+// The time: its answer, the head and the time, has bytes of its own.
+pub const TIME_SIZE: usize = 14;
+
+pub const TIME_PENALTY: usize = 2;
+
+pub const TIME_FILE: usize = 6;
+
+pub const TIME_COSTS: usize = 10;
+
+pub const TIME_WIDTH: usize = 8;
+
+pub const CYCLES_SIZE: usize = HEAD_SIZE + TIME_WIDTH;

@@ -19,6 +19,7 @@ use dead::first_dead;
 use edges::edge_rule;
 use edges::first_bad_edge;
 pub use edges::wrong_edge;
+pub use marks::fill;
 use nesting::first_bad_loop;
 use paper::Trailer;
 use paper::Verdict;

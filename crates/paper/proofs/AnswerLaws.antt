@@ -21,7 +21,9 @@ use Rattle.paper.specs.declared.FindAnswer.the-variants as FindAnswers
 use Rattle.paper.specs.declared.SalvageAnswer.{SalvageAnswer}
 use Rattle.paper.specs.declared.SalvageAnswer.the-variants as SalvageAnswers
 use Rattle.paper.specs.declared.WaysAnswer.{WaysAnswer}
-use Rattle.paper.specs.Answers.{refuseAt, Told, toldVerdict, toldTrace, toldOutcome, toldBlock, toldSet, toldWrite, toldFind, toldSalvage, toldCounts, toldWays}
+use Rattle.paper.specs.declared.TimeAnswer.{TimeAnswer}
+use Rattle.paper.specs.declared.TimeAnswer.the-variants as TimeAnswers
+use Rattle.paper.specs.Answers.{refuseAt, Told, toldVerdict, toldTrace, toldOutcome, toldBlock, toldSet, toldWrite, toldFind, toldSalvage, toldCounts, toldWays, toldTime}
 
 -- answers that tell the same are the same, where each is got back
 same-by : {A : Type 0} (answer : Told → A) (told : A → Told) → ((r : A) → answer (told r) ≡ r) → (r r′ : A) → told r ≡ told r′ → r ≡ r′
@@ -97,6 +99,10 @@ salvage-back : (v : SalvageAnswer) → salvageAnswer (toldSalvage v) ≡ v
 salvage-back (SalvageAnswers.Salvaged s) = refl
 salvage-back (SalvageAnswers.Refused r) = refl
 
+time-back : (v : TimeAnswer) → answer TimeAnswers.Refused (TimeAnswers.Time 0) TimeAnswers.Time (toldTime v) ≡ v
+time-back (TimeAnswers.Time n) = refl
+time-back (TimeAnswers.Refused r) = refl
+
 pub same-verdict : (v v′ : Verdict) → toldVerdict v ≡ toldVerdict v′ → v ≡ v′
 same-verdict = same _ _ _ toldVerdict verdict-back
 
@@ -132,3 +138,6 @@ same-ways v v′ e c =
     let f : v .verdict ≡ v′ .verdict =
     sym (ways-back (v .verdict) (v .counts)) ∙ ap (answer Verdicts.Refused Verdicts.Accepted (λ n. Verdicts.Accepted)) e ∙ ways-back (v′ .verdict) (v′ .counts) in
     λ t. record { counts = c t; verdict = f t }
+
+pub same-time : (v v′ : TimeAnswer) → toldTime v ≡ toldTime v′ → v ≡ v′
+same-time = same _ _ _ toldTime time-back

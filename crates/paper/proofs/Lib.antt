@@ -15,6 +15,11 @@ pub mod Reach
 pub mod Reached
 pub mod DeadPlaces
 pub mod GraphLaws
+pub mod Highest
+pub mod TurnLaws
+pub mod TimeLaws
+pub mod WayLaws
+pub mod CutLaws
 pub mod Chain
 pub mod Nests
 pub mod LoopSizes
@@ -25,6 +30,7 @@ pub mod FileLaws
 pub mod LayoutTests
 pub mod TestLaws
 pub mod Numbers
+pub mod TimeNumbers
 pub mod LineLaws
 pub mod Fillings
 pub mod Masks

@@ -11,6 +11,7 @@ use Rattle.paper.specs.declared.Verdict.the-variants.{Accepted, Refused}
 use Rattle.paper.specs.Answers.{refuse}
 use Rattle.paper.specs.Lists.{least, some}
 use Rattle.paper.specs.Rules.{ruleBy, rule, ruleAt, Passes}
+pub use Rattle.paper.specs.Rules.{follow}
 
 pub never : {P : Type 0} (r : Refusal) → Refused r ≡ Accepted → P
 never r e = let z : _≡_ {A = ℕ} 0 1 = cc in absurd (omega arith)
@@ -55,11 +56,6 @@ module _ (number n : ℕ) (p : ℕ → Bool) (rest : Verdict) (i : ℕ) (e : i �
 
   pub stops-at : (r : Refusal) → i < n → r ≡ refuse number i → Refused r ≡ ruleAt number p n rest
   stops-at r h s = rw (breaks p n i e h) (ap Refused (s ∙ ap (refuse number) e))
-
--- what comes of a verdict where the rest follows it
-abbrev pub follow : Verdict → Verdict → Verdict
-follow Accepted rest = rest
-follow (Refused r) rest = Refused r
 
 -- What follows a chain is reached only where the chain accepts.
 abbrev pub Hands : (Verdict → Verdict) → Type 0

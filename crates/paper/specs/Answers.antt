@@ -21,6 +21,8 @@ use Rattle.paper.specs.declared.FindAnswer.the-variants as FindAnswers
 use Rattle.paper.specs.declared.SalvageAnswer.{SalvageAnswer}
 use Rattle.paper.specs.declared.SalvageAnswer.the-variants as SalvageAnswers
 use Rattle.paper.specs.declared.WaysAnswer.{WaysAnswer}
+use Rattle.paper.specs.declared.TimeAnswer.{TimeAnswer}
+use Rattle.paper.specs.declared.TimeAnswer.the-variants as TimeAnswers
 
 -- "The result gets a second place."
 abbrev pub refuseAt : ℕ → ℕ → ℕ → Refusal
@@ -82,6 +84,11 @@ toldFind (FindAnswers.Refused r) = tellsWhy r
 abbrev pub toldSalvage : SalvageAnswer → Told
 toldSalvage (SalvageAnswers.Salvaged s) = tells (s .length ∷ s .dropped ∷ [])
 toldSalvage (SalvageAnswers.Refused r) = tellsWhy r
+
+-- "Only the time is returned."
+abbrev pub toldTime : TimeAnswer → Told
+toldTime (TimeAnswers.Time n) = tells (n ∷ [])
+toldTime (TimeAnswers.Refused r) = tellsWhy r
 
 -- The value told, or `before` where none is: a number that is written only where nothing is refused.
 abbrev pub valueOr : ℕ → Told → ℕ

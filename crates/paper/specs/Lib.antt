@@ -12,6 +12,7 @@ pub mod Walks
 pub mod Runs
 pub mod Facts
 pub mod Bounds
+pub mod Times
 pub mod Products
 pub mod Ceilings
 pub mod Records

@@ -1,5 +1,5 @@
 -- Tests, sums, products and lists over the numbers below n. Each rule of the paper that looks for "the least place" is one `least`.
-use Prim.Native.Nat.{ℕ, zero, suc, _+_, _*_, min}
+use Prim.Native.Nat.{ℕ, zero, suc, _+_, _*_, min, max}
 use mathlib.Core.Bool.{Bool, true, false, cond}
 use mathlib.Core.List.{List, [], _∷_, _++_}
 use lib.Dec.{ltb}
@@ -40,10 +40,22 @@ unfoldable pub lowestTo : (ℕ → ℕ) → ℕ → ℕ → ℕ
 lowestTo g a zero = a
 lowestTo g a (suc n) = min (lowestTo g a n) (g n)
 
+-- The greatest of g's values below n, and 0 where there is none.
+unfoldable pub highestTo : (ℕ → ℕ) → ℕ → ℕ
+highestTo g zero = 0
+highestTo g (suc n) = max (highestTo g n) (g n)
+
 -- g's values below n, in order.
 unfoldable pub table : {A : Type 0} → (ℕ → A) → ℕ → List A
 table g zero = []
 table g (suc n) = g 0 ∷ table (λ i. g (suc i)) n
+
+-- A table of n entries made in turn: f makes each from those before it, which it reads by index.
+unfoldable pub inTurn : ((ℕ → ℕ) → ℕ → ℕ) → ℕ → List ℕ
+inTurn f zero = []
+inTurn f (suc n) =
+    let t = inTurn f n in
+    t ++ (f (λ i. getD t i 0) n ∷ [])
 
 abbrev pub bit : Bool → ℕ
 bit true = 1

@@ -26,3 +26,8 @@ ruleAt number p n rest = rule number (least p n) (some p n) rest
 -- No rule of the chain is broken.
 abbrev pub Passes : (Verdict → Verdict) → Type 0
 Passes chain = chain Accepted ≡ Accepted
+
+-- what comes of a verdict where the rest follows it
+abbrev pub follow : Verdict → Verdict → Verdict
+follow Accepted rest = rest
+follow (Refused r) rest = Refused r

@@ -143,6 +143,12 @@ pub struct WaysAnswer {
     pub verdict: Verdict,
 }
 
+// "Only the time is returned."
+pub enum TimeAnswer {
+    Time(u64),
+    Refused(Refusal),
+}
+
 // "The loops are handed on as a list of records: first node, last node, bound"; and "a further 32-bit number W", how often a whole walk visits the header at most.
 pub struct Loop {
     pub first: u16,

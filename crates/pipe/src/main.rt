@@ -2,6 +2,7 @@
 mod finds;
 mod requests;
 mod salvages;
+mod times;
 mod ways;
 mod writes;
 
@@ -37,6 +38,7 @@ fn asked(
         7 => finds::find(request, bytes, blocks),
         8 => salvages::salvage(request, bytes, numbers),
         9 => ways::all_ways(request, bytes, blocks),
+        10 => times::time(request, bytes),
         _ => Frame::Stopped(1),
     }
 }

@@ -5,12 +5,13 @@ use paper::FindAnswer;
 use paper::Outcome;
 use paper::SalvageAnswer;
 use paper::SetAnswer;
+use paper::TimeAnswer;
 use paper::TraceAnswer;
 use paper::Verdict;
 use paper::WaysAnswer;
 use paper::WriteAnswer;
 ghost use mathlib.Core.Path.{_≡_};
-ghost use Rattle.paper.specs.Answers.{toldVerdict, toldTrace, toldOutcome, toldBlock, toldSet, toldWrite, toldFind, toldSalvage, toldWays, valueOr, limitOr, secondOr, countsOr};
+ghost use Rattle.paper.specs.Answers.{toldVerdict, toldTrace, toldOutcome, toldBlock, toldSet, toldWrite, toldFind, toldSalvage, toldWays, toldTime, valueOr, limitOr, secondOr, countsOr};
 
 pub fn check(answer: Verdict, place: &mut u64, second: &mut u64) -> u8
     ensures { λ r. ⌜ r ≡ toldVerdict answer .number ⌝ }
@@ -169,6 +170,27 @@ pub fn all_ways(answer: WaysAnswer, counts: &mut [u64; 8], place: &mut u64) -> u
         Verdict::Refused(wrong) => {
             *place = wrong.place as u64;
             wrong.number
+        }
+    }
+}
+
+pub fn time(answer: TimeAnswer, cycles: &mut u64, place: &mut u64, second: &mut u64) -> u8
+    ensures { λ r. ⌜ r ≡ toldTime answer .number ⌝ }
+    ensures { λ _. ⌜ now (cycles .exit) ≡ valueOr (now (cycles .entry)) (toldTime answer) ⌝ }
+    ensures { λ _. ⌜ now (place .exit) ≡ toldTime answer .place ⌝ }
+    ensures { λ _. ⌜ now (second .exit) ≡ toldTime answer .second ⌝ }
+{
+    match answer {
+        TimeAnswer::Time(most) => {
+            *cycles = most;
+            *place = 0;
+            *second = 0;
+            0
+        }
+        TimeAnswer::Refused(bad) => {
+            *place = bad.place as u64;
+            *second = bad.second as u64;
+            bad.number
         }
     }
 }

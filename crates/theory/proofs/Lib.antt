@@ -39,6 +39,9 @@ pub mod SetBounds
 pub mod Seen
 pub mod Printed
 pub mod Demand
+pub mod Paying
+pub mod Rounds
+pub mod Times
 pub mod Accepted
 pub mod Unlimited
 pub mod Undisturbed

@@ -135,6 +135,16 @@ impl Graph {
         }
     }
 
+    /// The outermost loop inside a scope, and not the scope itself, that has the node.
+    pub fn directly_inside(&self, scope: Scope, node: usize) -> Option<usize> {
+        let outside = match scope {
+            Scope::Whole => None,
+            Scope::Loop(i) => Some(i),
+        };
+        // Loops are numbered by their headers, so those inside a loop come after it, the outermost first.
+        self.around[node].iter().copied().find(|&i| Some(i) > outside)
+    }
+
     pub fn scope(&self, number: u16) -> Option<Scope> {
         match usize::from(number) {
             _ if number == WHOLE_GRAPH => Some(Scope::Whole),

@@ -13,6 +13,7 @@ mod layout;
 mod rows;
 mod rules;
 mod salvage;
+mod times;
 mod verdict;
 mod writer;
 
@@ -28,6 +29,7 @@ pub use layout::{claimed_numbers, loops_have_w, Numbers, LARGEST, TRAILER, VERSI
 pub use rows::{Row, RowRecord, ROW_NUMBERS};
 pub use rules::{Paper, Rules, Stakes};
 pub use salvage::{salvage, Apart, Salvaged};
+pub use times::{time, Ways, LARGEST_TIME};
 pub use verdict::{check, judge, Case, NUMBERS};
 pub use writer::{read_content, write};
 

@@ -1,7 +1,7 @@
 //! The paper's formulas, one method each, so that a wrong one can be put in the place of a single right one and be
 //! seen to fail.
 
-use super::{Graph, Scope};
+use super::{Bounds, Graph, Scope, LARGEST_TIME};
 use crate::machine::Policy;
 use std::collections::BTreeSet;
 
@@ -75,6 +75,31 @@ pub trait Rules {
     /// "floor(k·M(l)/(k-l+1))"
     fn floor(&self, ways: u128, limit: u128, lru_misses: u128) -> u128 {
         ways * lru_misses / (ways - limit + 1)
+    }
+
+    /// "each inner loop taken as one step": the loop directly inside the scope that has the node, if one has.
+    fn inner(&self, graph: &Graph, scope: Scope, node: usize) -> Option<usize> {
+        graph.directly_inside(scope, node)
+    }
+
+    /// "the longest way": of the ways that go on from a step, each with the step that it goes to. It may also end there.
+    fn onward(&self, ways: &mut dyn Iterator<Item = (u128, usize)>) -> Option<(u128, usize)> {
+        ways.max()
+    }
+
+    /// "times B"
+    fn rounds(&self, bound: u128) -> u128 {
+        bound
+    }
+
+    /// "penalty times the total miss bound for the given p"
+    fn charged(&self, bounds: &Bounds) -> u128 {
+        bounds.total
+    }
+
+    /// "27 if the time exceeds 9,223,372,036,854,775,807"
+    fn told(&self, time: u128) -> Option<u64> {
+        (time <= LARGEST_TIME).then_some(time as u64)
     }
 
     /// What row v must hold where row u is a set: "row u's blocks and also u's block where u fetches one of b's set".

@@ -55,7 +55,7 @@ pub fn run(pipe: &Pipe, settings: &Settings) -> Result<(), String> {
 }
 
 /// A file, and how many numbers are lent with it.
-type Asked = (Vec<u8>, usize);
+pub(super) type Asked = (Vec<u8>, usize);
 
 /// A lent list with noise in it.
 fn check(random: &mut Random, file: Vec<u8>, interruptions: u16, numbers: usize) -> Request {
@@ -69,7 +69,7 @@ fn sound_file(random: &mut Random, kinds: &mut Kinds) -> Asked {
     (draft.write(), NUMBERS + random.pick(&[0, 0, 1, 7, 40]))
 }
 
-fn scattered_file(random: &mut Random) -> Asked {
+pub(super) fn scattered_file(random: &mut Random) -> Asked {
     let plan = Plan::any(random);
     let mut file = sound(random, &plan, &Paper).write();
     scatter(random, &mut file);
@@ -77,7 +77,7 @@ fn scattered_file(random: &mut Random) -> Asked {
 }
 
 /// A fault, or two so that their order shows, in a file that has room for them at first, middle and last places.
-fn damaged_file(random: &mut Random, turn: usize) -> Asked {
+pub(super) fn damaged_file(random: &mut Random, turn: usize) -> Asked {
     let plan = Plan::roomy(random);
     let draft = (0..20)
         .map(|_| sound(random, &plan, &Paper))

@@ -12,6 +12,17 @@ const NO_OPERATION: u8 = 1;
 const CUT_SHORT: u8 = 2;
 const TOO_LARGE: u8 = 3;
 
+/// What stands before the lengths of a frame, and how many bytes these are.
+const HEADS: [(&[u8], usize); 7] = [
+    (&[4, 0, 1, 1], 8),
+    (&[5, 0, 0], 8),
+    (&[6, 1, 0, 1, 1], 24),
+    (&[7, 0, 0, 0, 0], 8),
+    (&[8], 12),
+    (&[9, 1], 4),
+    (&[10, 0, 0, 0, 0, 0, 0], 8),
+];
+
 /// One small whole frame of each operation.
 fn small_frames() -> Vec<Request> {
     vec![
@@ -29,6 +40,7 @@ fn small_frames() -> Vec<Request> {
         Request::Find { file: vec![81, 77, 66, 84, 3], scope: 1, block: 700, rows: vec![5; 3] },
         Request::Salvage { file: vec![81, 77, 66, 84, 3], out: vec![7; 4], dropped: vec![5; 2] },
         Request::Ways { sets: 2, blocks: vec![1, 2, 1] },
+        Request::Time { interruptions: 258, penalty: 70_000, file: vec![81, 77, 66, 84, 3], costs: vec![5; 3] },
     ]
 }
 
@@ -58,7 +70,7 @@ pub fn run(pipe: &Pipe, settings: &Settings) -> Result<(), String> {
             converse(pipe, &before(&mut random), &whole[..cut], &[CUT_SHORT])?;
         }
     }
-    for operation in [0, 10, 11, 127, 128, 255] {
+    for operation in [0, 11, 12, 127, 128, 255] {
         // What follows would be a good frame, but "after it nothing more is read".
         let mut bytes = vec![operation];
         bytes.extend(small_frames()[1].encode());
@@ -96,6 +108,7 @@ fn too_large() -> Vec<(Vec<u8>, &'static [u8])> {
     let find = |file, rows| Request::Find { file: vec![0; file], scope: 0, block: 0, rows: vec![0; rows] };
     let salvage =
         |file, out, dropped| Request::Salvage { file: vec![0; file], out: vec![0; out], dropped: vec![0; dropped] };
+    let time = |file, costs| Request::Time { interruptions: 0, penalty: 0, file: vec![0; file], costs: vec![0; costs] };
     let whole = [
         trace(room::ACCESSES + 1, 0),
         trace(0, room::MARKS + 1),
@@ -113,17 +126,11 @@ fn too_large() -> Vec<(Vec<u8>, &'static [u8])> {
         salvage(0, room::SALVAGED + 1, 0),
         salvage(0, 0, room::DROPPED + 1),
         Request::Ways { sets: 1, blocks: vec![0; room::ACCESSES + 1] },
+        time(room::FILE + 1, 0),
+        time(0, room::COSTS + 1),
     ];
     let mut frames: Vec<(Vec<u8>, &[u8])> = whole.iter().map(|frame| (frame.encode(), &[TOO_LARGE][..])).collect();
-    let heads = [
-        (&[4, 0, 1, 1][..], 8),
-        (&[5, 0, 0], 8),
-        (&[6, 1, 0, 1, 1], 24),
-        (&[7, 0, 0, 0, 0], 8),
-        (&[8], 12),
-        (&[9, 1], 4),
-    ];
-    for (head, lengths) in heads {
+    for (head, lengths) in HEADS {
         frames.push(([head, &vec![0xff; lengths]].concat(), &[CUT_SHORT, TOO_LARGE]));
     }
     frames
@@ -147,6 +154,13 @@ fn largest_frames(pipe: &Pipe) -> Result<(), String> {
         Request::Salvage { file: Vec::new(), out: Vec::new(), dropped: Vec::new() },
         Request::Ways { sets: 1, blocks: vec![3; room::ACCESSES] },
         Request::Ways { sets: 1, blocks: Vec::new() },
+        Request::Time {
+            interruptions: 65_535,
+            penalty: u32::MAX,
+            file: vec![7; room::FILE],
+            costs: vec![7; room::COSTS],
+        },
+        Request::Time { interruptions: 0, penalty: 0, file: Vec::new(), costs: Vec::new() },
     ];
     super::agree(pipe, &largest)?;
     println!("the largest and the smallest frames are answered");

@@ -12,6 +12,7 @@ pub mod gathering;
 mod kinds;
 mod nests;
 pub mod salvages;
+pub mod times;
 pub mod walks;
 pub mod ways;
 pub mod writes;
@@ -47,6 +48,8 @@ pub struct Settings {
     pub salvaged: usize,
     /// Traces that are counted for all ways.
     pub counted: usize,
+    /// Files whose time is asked for.
+    pub timed: usize,
     /// A program that writes the content of its input again by the library: for files that `pipe` has no room for.
     pub library: Option<Pipe>,
 }
@@ -84,6 +87,7 @@ impl<'a> Comparison<'a> {
             Request::Find { file, rows, .. } => file.len() + 2 * rows.len(),
             Request::Salvage { file, out, dropped } => file.len() + out.len() + 8 * dropped.len(),
             Request::Ways { blocks, .. } => 2 * blocks.len(),
+            Request::Time { file, costs, .. } => file.len() + 4 * costs.len(),
             _ => 32,
         };
         self.waiting.push(request);

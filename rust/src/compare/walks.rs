@@ -112,12 +112,12 @@ impl Seen {
 }
 
 /// How often handlers may run: as a rule not often, so that the bounds are below N.
-fn most(random: &mut Random) -> u16 {
+pub(super) fn most(random: &mut Random) -> u16 {
     let few = random.within(2..=6) as u16;
     random.pick(&[0, 0, 1, 1, 1, 2, few, few, 65_535])
 }
 
-fn small_file(random: &mut Random) -> Draft {
+pub(super) fn small_file(random: &mut Random) -> Draft {
     let plan = Plan::small(random);
     match random.below(10) {
         0..=4 => braid(random, &Paper),

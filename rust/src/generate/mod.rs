@@ -2,6 +2,7 @@
 
 pub mod braids;
 pub mod cases;
+pub mod costs;
 pub mod damage;
 pub mod evidence;
 mod facts;

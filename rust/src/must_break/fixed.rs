@@ -128,7 +128,7 @@ fn left_early() -> Break {
 }
 
 /// b is alone in its loop, and misses where it is entered. Then a handler leaves nothing of it, and it misses once more.
-fn interrupted(policy: u8) -> Break {
+pub fn interrupted(policy: u8) -> Break {
     let lists = Lists { nodes: vec![B], edges: vec![(0, 0)], loops: vec![LoopRecord::new(0, 0, 3)] };
     let facts = vec![FactRecord { scope: 0, block: B, limit: 1, rows: vec![blocks(&[]).record()] }];
     Break {

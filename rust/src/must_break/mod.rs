@@ -1,9 +1,10 @@
 //! Wrong bounds, each of which some small file, walk and start content exceed: what the comparison of walks cannot show,
-//! since a bound that is merely too large passes all of them. And wrong salvages.
+//! since a bound that is merely too large passes all of them. And wrong salvages, and wrong times.
 
 mod fixed;
 mod salvages;
 mod search;
+mod times;
 mod wrong;
 
 pub use search::search;
@@ -37,13 +38,14 @@ pub struct Wrong {
     pub rules: &'static dyn Rules,
 }
 
-/// Shows the fixed breaks; with `pipe`, also that `check` gives the right numbers on them, that they come out again, and that
-/// what a wrong salvage spoils is salvaged well.
+/// Shows the fixed breaks; with `pipe`, also that `check` gives the right numbers on them, that they come out again, that
+/// what a wrong salvage spoils is salvaged well, and that `time` gives the right times.
 pub fn run(pipe: Option<&Pipe>) -> Result<(), String> {
     for (wrong, found) in wrong::ALL.iter().zip(fixed::all()) {
         println!("{}", examine(wrong, &found).map_err(|fault| format!("{}: {fault}", wrong.name))?);
     }
     salvages::run()?;
+    times::run()?;
     pipe.map_or(Ok(()), through)
 }
 
@@ -58,6 +60,7 @@ fn through(pipe: &Pipe) -> Result<(), String> {
         let (out, dropped) = (vec![165; file.len()], vec![7; 9]);
         agree(pipe, &[Request::Salvage { file, out, dropped }])?;
     }
+    agree(pipe, &times::requests())?;
     again.finish()
 }
 

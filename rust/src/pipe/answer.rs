@@ -48,6 +48,8 @@ pub enum Body {
     Ways {
         counts: Vec<u64>,
     },
+    /// "the time (refused: 0)"
+    Time(u64),
 }
 
 /// "A frame that cannot be answered ends the conversation. Its answer is the byte 0, then one byte that says why, then
@@ -93,6 +95,7 @@ impl Body {
                 Body::Salvage { length, count, out, dropped: take_list(rest, dropped.len())? }
             }
             Request::Ways { .. } => Body::Ways { counts: take_list(rest, 8)? },
+            Request::Time { .. } => Body::Time(take(rest)?),
         })
     }
 }

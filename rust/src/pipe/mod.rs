@@ -27,4 +27,6 @@ pub mod room {
     pub const WRECK: usize = 1_048_576;
     pub const SALVAGED: usize = 1_048_576;
     pub const DROPPED: usize = 4_096;
+    /// Costs of nodes.
+    pub const COSTS: usize = 4_096;
 }

@@ -15,6 +15,7 @@ pub enum Request {
     Find { file: Vec<u8>, scope: u16, block: u16, rows: Vec<u16> },
     Salvage { file: Vec<u8>, out: Vec<u8>, dropped: Vec<u64> },
     Ways { sets: u8, blocks: Vec<u16> },
+    Time { interruptions: u16, penalty: u32, file: Vec<u8>, costs: Vec<u32> },
 }
 
 impl Request {
@@ -29,6 +30,7 @@ impl Request {
             Request::Find { .. } => 7,
             Request::Salvage { .. } => 8,
             Request::Ways { .. } => 9,
+            Request::Time { .. } => 10,
         }
     }
 
@@ -86,6 +88,13 @@ impl Request {
                 sets.put(&mut out);
                 put_lengths([blocks.len()], &mut out);
                 put_list(blocks, &mut out);
+            }
+            Request::Time { interruptions, penalty, file, costs } => {
+                interruptions.put(&mut out);
+                penalty.put(&mut out);
+                put_lengths([file.len(), costs.len()], &mut out);
+                out.extend_from_slice(file);
+                put_list(costs, &mut out);
             }
         }
         out

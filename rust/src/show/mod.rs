@@ -43,7 +43,7 @@ pub fn file(bytes: &[u8]) -> String {
     format!("{lists}  the file's {} bytes:\n{}", bytes.len(), hex(bytes))
 }
 
-/// A request in words, and its frame; of a check, a find and a salvage the file alone, since their lists are noise.
+/// A request in words, and its frame; of a check, a find and a salvage the file alone, since their lists are noise, and of a time the costs too.
 pub fn request(request: &Request) -> String {
     match request {
         Request::Check { interruptions, file: bytes, numbers } => {
@@ -56,8 +56,15 @@ pub fn request(request: &Request) -> String {
         Request::Salvage { file: bytes, out, dropped } => {
             format!("salvage, {} bytes and {} numbers lent\n{}", out.len(), dropped.len(), file(bytes))
         }
+        Request::Time { interruptions, penalty, file: bytes, costs: list } => {
+            format!("time, {interruptions} interruptions, {}\n{}", costs(list, *penalty), file(bytes))
+        }
         other => format!("{}\n  the frame:\n{}", arguments(other), hex(&other.encode())),
     }
+}
+
+pub fn costs(list: &[u32], penalty: u32) -> String {
+    format!("penalty {penalty}, {} costs: {}", list.len(), words(list))
 }
 
 /// A content: its lists as records where they are whole, and as they were handed.

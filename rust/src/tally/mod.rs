@@ -37,7 +37,7 @@ fn extent(request: &Request, number: u8) -> Option<(u64, u64)> {
         Request::Trace { blocks, .. } | Request::Ways { blocks, .. } if number == 21 => {
             return Some((0, blocks.len() as u64))
         }
-        Request::Check { file, .. } => claimed_numbers(file)?,
+        Request::Check { file, .. } | Request::Time { file, .. } => claimed_numbers(file)?,
         Request::Write { content, .. } => content.numbers(),
         // Past the graph's rules a finder and a salvage have no places.
         Request::Find { file, .. } | Request::Salvage { file, .. } if number <= 10 || number == 26 => {
@@ -61,9 +61,10 @@ fn extent(request: &Request, number: u8) -> Option<(u64, u64)> {
 /// The lists that the request is about, where they can be told apart.
 fn lists(request: &Request) -> Option<Draft> {
     match request {
-        Request::Check { file, .. } | Request::Find { file, .. } | Request::Salvage { file, .. } => {
-            Draft::skim(file).ok()
-        }
+        Request::Check { file, .. }
+        | Request::Find { file, .. }
+        | Request::Salvage { file, .. }
+        | Request::Time { file, .. } => Draft::skim(file).ok(),
         Request::Write { content, .. } => content.draft(),
         _ => None,
     }
@@ -122,7 +123,8 @@ impl Tally {
     pub fn demand(&self, operation: u8, numbers: impl IntoIterator<Item = u8>, at_least: u64) -> Result<(), String> {
         for number in numbers {
             let places = self.get(operation, number);
-            let placed = matches!((operation, number), (5 | 6, 6..=18 | 24..=26) | (7 | 8, 6..=10 | 26) | (4 | 9, 21));
+            let placed =
+                matches!((operation, number), (5 | 6 | 10, 6..=18 | 24..=26) | (7 | 8, 6..=10 | 26) | (4 | 9, 21));
             let fewest = places.first.min(places.middle).min(places.last);
             if places.count < at_least || placed && fewest * 10 < at_least {
                 return Err(format!(

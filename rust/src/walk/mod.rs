@@ -1,9 +1,11 @@
 //! A walker goes one visit at a time, where edges lead and the limits allow, and counts its misses.
 
 mod limits;
+mod longest;
 mod misses;
 
 pub use limits::{is_walk, keeps_limits};
+pub use longest::longest_walk;
 pub use misses::{Measure, Misses, Number};
 
 use crate::case::{Case, Loop};
@@ -81,6 +83,12 @@ impl<'a> Walker<'a> {
     /// Whether some header has been visited as often as its W allows.
     pub fn uses_up_visits(&self) -> bool {
         self.case.graph.loops.iter().zip(&self.all_visits).any(|(l, &visits)| l.visits == Some(visits))
+    }
+
+    /// "the sum of its node costs and penalties"
+    pub fn spent(&self, costs: &[u32], penalty: u32) -> u128 {
+        let costs: u128 = self.walk.iter().map(|&node| u128::from(costs[node])).sum();
+        costs + u128::from(penalty) * self.misses.total
     }
 
     /// The nodes that the walk may visit next.

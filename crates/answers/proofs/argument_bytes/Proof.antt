@@ -43,22 +43,27 @@ returns-9 c = (rw (c .match .keys9), omega arith)
 
 returns-10 : tie.Need-returns-10
 unfolding argumentBytes
-returns-10 c =
+returns-10 c = (rw (c .match .keys10), omega arith)
+
+returns-11 : tie.Need-returns-11
+unfolding argumentBytes
+returns-11 c =
     let r = c .match .rest in
-    let low = r .0 .0 .0 .0 .0 in (
+    let low = r .0 .0 .0 .0 .0 .0 in (
       rw (
         ne-eqb _ 1 (low .0 .0 .0 .1),
         ne-eqb _ 2 (low .0 .0 .1),
         ne-eqb _ 3 (low .0 .1),
         ne-eqb _ 4 (low .1),
-        ne-eqb _ 5 (r .0 .0 .0 .0 .1),
-        ne-eqb _ 6 (r .0 .0 .0 .1),
-        ne-eqb _ 7 (r .0 .0 .1),
-        ne-eqb _ 8 (r .0 .1),
-        ne-eqb _ 9 (r .1),
+        ne-eqb _ 5 (r .0 .0 .0 .0 .0 .1),
+        ne-eqb _ 6 (r .0 .0 .0 .0 .1),
+        ne-eqb _ 7 (r .0 .0 .0 .1),
+        ne-eqb _ 8 (r .0 .0 .1),
+        ne-eqb _ 9 (r .0 .1),
+        ne-eqb _ 10 (r .1),
       ),
       omega arith,
     )
 
 pub argument-bytes-spec : {M : Type 1} → statement M
-argument-bytes-spec = tie.close (tie.spec returns returns-2 returns-3 returns-4 returns-5 returns-6 returns-7 returns-8 returns-9 returns-10)
+argument-bytes-spec = tie.close (tie.spec returns returns-2 returns-3 returns-4 returns-5 returns-6 returns-7 returns-8 returns-9 returns-10 returns-11)

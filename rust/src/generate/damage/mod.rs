@@ -25,6 +25,9 @@ pub const FOUND: [u8; 14] = [1, 2, 3, 4, 5, 6, 7, 8, 9, 26, 10, 12, 14, 20];
 /// Every rule that a salvage can find broken, in its order: 20 is about both lent lists.
 pub const SALVAGED: [u8; 12] = [1, 2, 3, 4, 5, 6, 7, 8, 9, 26, 10, 20];
 
+/// Every rule that a time can find broken, in its order: 20 is about the costs.
+pub const TIMED: [u8; 24] = [1, 2, 3, 4, 5, 6, 7, 8, 9, 26, 10, 11, 12, 13, 14, 15, 16, 17, 24, 25, 18, 19, 20, 27];
+
 /// Where among several the fault shall lie.
 #[derive(Clone, Copy, Debug, PartialEq)]
 pub enum Spot {

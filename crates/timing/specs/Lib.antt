@@ -1,0 +1,4 @@
+pub mod Pushed
+pub mod Ready
+pub mod Numbered
+pub mod Answering
