@@ -27,11 +27,11 @@ fn fetches_to(file: &[u8], trailer: Trailer, last: u16, b: u16, v: u16) -> bool
     (v <= last) & (layout::node_at(file, trailer, v) == b)
 }
 
-fn lower_if(hit: bool, l: u16, old: u16) -> u16
+fn lower_if(hit: bool, l: u16, old: u8) -> u8
     ensures { λ r. ⌜ r ≡ min old (cond hit l Sizes.noLimit) ⌝ }
 {
     let x = if hit { l } else { NO_LIMIT };
-    if x < old { x } else { old }
+    if x < old as u16 { x as u8 } else { old }
 }
 
 // The nodes by their blocks' buckets: place h holds the last node of bucket h, and after the buckets place v the one before v in its bucket, each plus 1, and 0 where there is none.
@@ -57,7 +57,7 @@ pub fn cover_nodes(
     counts: &[u32],
     chain: &[u16; CHAINED],
     h: Head,
-    cover: &mut [u16; NODES],
+    cover: &mut [u8; NODES],
 ) -> u64
     requires { ⌜ Ready (now file) trailer (now counts) ⌝ }
     requires { ⌜ Chained.Chained (Files.caseOf (now file) trailer) (trailer .nodes) (now chain) ⌝ }

@@ -38,7 +38,7 @@ fn charge_fact(
     outers: &[u16; LOOPS],
     chain: &[u16; CHAINED],
     p: usize,
-    cover: &mut [u16; NODES],
+    cover: &mut [u8; NODES],
 ) -> Cost
     requires { ⌜ Ready (now file) trailer (now counts) ⌝ }
     requires { ⌜ NextOut.Outers (Files.caseOf (now file) trailer) (trailer .loops) (now outers) ⌝ }
@@ -71,7 +71,7 @@ fn charge_each(
     interruptions: u16,
     outers: &[u16; LOOPS],
     chain: &[u16; CHAINED],
-    cover: &mut [u16; NODES],
+    cover: &mut [u8; NODES],
     charged: &mut [u64; SETS],
     entered: &mut [u64; SETS_BY_LIMITS],
     numbers: &mut [u64],
@@ -121,7 +121,7 @@ pub fn charge_facts(
     trailer: Trailer,
     counts: &[u32],
     interruptions: u16,
-    cover: &mut [u16; NODES],
+    cover: &mut [u8; NODES],
     charged: &mut [u64; SETS],
     entered: &mut [u64; SETS_BY_LIMITS],
     numbers: &mut [u64],

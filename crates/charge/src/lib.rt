@@ -8,14 +8,16 @@ ghost use Rattle.paper.specs.Files as Files;
 ghost use Rattle.paper.proofs.Meaning.{Sound};
 ghost use Rattle.paper.specs.Known.{Laid};
 ghost use Rattle.layout.specs.Counted.{Counted};
+ghost use Rattle.charge.specs.Chained as Chained;
 ghost use Rattle.charge.specs.Placed.{Placed};
+ghost use Rattle.charge.specs.ReadyFile.{Ready};
 ghost use Rattle.charge.specs.Tables as Tables;
 use paper::LIST_LENGTH;
 use paper::Trailer;
-use sizes::NO_LIMIT;
 use sizes::NODES;
 use sizes::SETS;
 use sizes::SETS_BY_LIMITS;
+use sizes::UNCOVERED;
 
 mod amounts;
 mod chains;
@@ -38,6 +40,38 @@ fn clear(numbers: &mut [u64])
     }
 }
 
+// The nodes, then the sets. Their tables stand in a function of their own, so that the stack holds them only where the facts' are no longer needed: the compiler puts both into one place.
+fn charge_rest(
+    file: &[u8],
+    trailer: Trailer,
+    counts: &[u32],
+    interruptions: u16,
+    cover: &[u8; NODES],
+    charged: &[u64; SETS],
+    entered: &[u64; SETS_BY_LIMITS],
+    numbers: &mut [u64],
+)
+    requires { ⌜ Ready (now file) trailer (now counts) ⌝ }
+    requires { ⌜ Chained.Covered (Files.caseOf (now file) trailer) (trailer .facts) (now cover) ⌝ }
+    requires { ⌜ Tables.FactsAdded (Files.caseOf (now file) trailer) interruptions (trailer .facts) (now charged) (now entered) ⌝ }
+    requires { ⌜ Tables.Part (Files.caseOf (now file) trailer) interruptions 0 0 (trailer .facts) (now numbers) (now numbers) ⌝ }
+    ensures { λ r. ⌜ Tables.Part (Files.caseOf (now (file .entry)) trailer) interruptions (Bounds.totalBound (Files.caseOf (now (file .entry)) trailer) interruptions) (trailer .sets) (trailer .facts) (now (numbers .entry)) (now (numbers .exit)) ⌝ }
+{
+    let mut fetched: [u64; SETS] = [0; SETS];
+    let mut spent: [u64; SETS_BY_LIMITS] = [0; SETS_BY_LIMITS];
+    nodes::charge_nodes(file, trailer, counts, cover, &mut fetched, &mut spent);
+    sets::charge_sets(
+        file,
+        trailer,
+        interruptions,
+        charged,
+        entered,
+        &fetched,
+        &spent,
+        numbers,
+    );
+}
+
 // All numbers: "the total, 64 set bounds, 256 fact bounds, unused ones 0, later ones untouched".
 pub fn charge(
     file: &[u8],
@@ -53,11 +87,9 @@ pub fn charge(
     requires { ⌜ Bounds.listLength ≤ length (now numbers) ⌝ }
     ensures { λ r. ⌜ now (numbers .exit) ≡ Bounds.numbers (Files.caseOf (now (file .entry)) trailer) interruptions ++ drop Bounds.listLength (now (numbers .entry)) ⌝ }
 {
-    let mut cover: [u16; NODES] = [NO_LIMIT; NODES];
+    let mut cover: [u8; NODES] = [UNCOVERED; NODES];
     let mut charged: [u64; SETS] = [0; SETS];
     let mut entered: [u64; SETS_BY_LIMITS] = [0; SETS_BY_LIMITS];
-    let mut fetched: [u64; SETS] = [0; SETS];
-    let mut spent: [u64; SETS_BY_LIMITS] = [0; SETS_BY_LIMITS];
     clear(numbers);
     facts::charge_facts(
         file,
@@ -69,15 +101,14 @@ pub fn charge(
         &mut entered,
         numbers,
     );
-    nodes::charge_nodes(file, trailer, counts, &cover, &mut fetched, &mut spent);
-    sets::charge_sets(
+    charge_rest(
         file,
         trailer,
+        counts,
         interruptions,
+        &cover,
         &charged,
         &entered,
-        &fetched,
-        &spent,
         numbers,
     );
 }

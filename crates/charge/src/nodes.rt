@@ -14,7 +14,7 @@ pub fn charge_nodes(
     file: &[u8],
     trailer: Trailer,
     counts: &[u32],
-    cover: &[u16; NODES],
+    cover: &[u8; NODES],
     fetched: &mut [u64; SETS],
     spent: &mut [u64; SETS_BY_LIMITS],
 )
@@ -29,7 +29,7 @@ pub fn charge_nodes(
         let b = layout::node_at(file, trailer, v);
         let at = v as usize;
         let x = amounts::count_if(b != 65535, counts[at]);
-        amounts::add(fetched, spent, trailer.sets, b, cover[at], x, x);
+        amounts::add(fetched, spent, trailer.sets, b, cover[at] as u16, x, x);
         v += 1;
     }
 }

@@ -1,4 +1,4 @@
--- The numbers begin as 0; the facts, the nodes and the sets are passed over in turn, and each pass asks for what the ones before it left.
+-- The numbers begin as 0; the facts are passed over, then the nodes and the sets, and what comes later asks for what the facts left.
 use mathlib.Core.Path.{_∙_}
 use borrow.Author.Needs.{needs}
 use Rattle.paper.specs.Files.{caseOf}
@@ -35,38 +35,29 @@ charge-facts-requires c κs =
     let k = before-facts c in
     (ready (start k), (covered-start _ (start k .pre .0 .nodes-high), (grouped-start _ _ _ _, part-self _ _ _ _ _ _ _ (cleared k))))
 
--- where the nodes' tables are lent, and where the nodes are charged
-abbrev facts : tie.After-spent → tie.After-charge-facts
-facts c = c .before .before .before .before .before
+-- where the tables are lent to what is left to do
+abbrev facts : tie.After-charge-rest-arg → tie.After-charge-facts
+facts c = c .before .before .before .before .before .before
 
-abbrev nodes : tie.After-charge-sets-arg → tie.After-charge-nodes
-nodes c = c .before .before .before .before .before
-
-charge-sets-requires : tie.Need-charge-sets-requires
-charge-sets-requires c κs =
-    let n = nodes c in
-    let f = facts (n .before) in
-    let r = ready (start (before-facts (f .before))) in
-    let w = f .charge-facts .ensures .1 in
-    (record { laid = r .laid; sound = r .sound; facts = w .0; nodes = n .charge-nodes .ensures }, part-self _ _ _ _ _ _ _ (w .1))
-
--- where the sets are charged
-abbrev charged : tie.After-charge-sets → tie.After-charge-facts
-charged c = facts (nodes (c .before) .before)
+charge-rest-requires : tie.Need-charge-rest-requires
+charge-rest-requires c κs =
+    let f = facts c in
+    let w = f .charge-facts .ensures in
+    (ready (start (before-facts (f .before))), (w .0, (w .1 .0, part-self _ _ _ _ _ _ _ (w .1 .1))))
 
 same-length : tie.Need-same-length
 same-length c =
     let s = c .before .before in
-    let f = charged s in
-    s .charge-sets .ensures .room ∙ (f .charge-facts .ensures .1 .1 .room ∙ cleared (before-facts (f .before)) .room)
+    let f = facts (s .before) in
+    s .charge-rest .ensures .room ∙ (f .charge-facts .ensures .1 .1 .room ∙ cleared (before-facts (f .before)) .room)
 
 returns : tie.Need-returns
 unfolding caseOf
 returns c =
     let s = c .before .before in
-    let f = charged s in
+    let f = facts (s .before) in
     let k = before-facts (f .before) in
-    part-end _ _ (start k .args .numbers .now) _ _ (f .charge-facts .ensures .1 .1 .later ∙ cleared k .later) (s .charge-sets .ensures)
+    part-end _ _ (start k .args .numbers .now) _ _ (f .charge-facts .ensures .1 .1 .later ∙ cleared k .later) (s .charge-rest .ensures)
 
 pub charge-spec : {M : Type 1} → statement M
 charge-spec =
@@ -74,7 +65,6 @@ charge-spec =
     (tie.spec
     (λ c κs. search needs)
     charge-facts-requires
-    (λ c κs. let f = facts c in (ready (start (before-facts (f .before))), (f .charge-facts .ensures .0, grouped-start _ _ _ _)))
-    charge-sets-requires
+    charge-rest-requires
     same-length
     returns)

@@ -91,10 +91,8 @@ cover-nodes-spec =
     (λ c. let i = c .before .before in omega (arith, node i, start (at i) .pre .0 .counted .room))
     (λ c κs. search needs)
     add-n
-    (λ c. omega (arith, low (counted c)))
     (λ c. low (counted c))
     (λ c κs. search needs)
-    (λ c. omega (arith, low (turn c)))
     (λ c. low (turn c))
     (λ c. omega (arith, low (turn c)))
     (λ c. omega (arith, low (turn c)))

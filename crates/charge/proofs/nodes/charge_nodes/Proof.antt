@@ -2,7 +2,9 @@
 use Prim.Native.Nat.{_-_, _<_}
 use native.Mathlib.Omega.{arith}
 use borrow.Author.Needs.{needs}
+use Rattle.paper.specs.Files.{caseOf}
 use Rattle.charge.specs.Sizes as Sizes
+use Rattle.charge.proofs.Cover.{covered-limits}
 use Rattle.charge.proofs.Walking.{Walking, walking-open, walking-more, walking-end}
 use Rattle.charge.proofs.nodes.charge_nodes.Statement.{statement}
 use Rattle.charge.proofs.nodes.charge_nodes.Tie as tie
@@ -23,6 +25,13 @@ low c = omega (arith, c .loop-test .taken, start (c .before) .pre .0 .laid .node
 -- where a node's count is taken
 abbrev turn : tie.After-count-if Inv-loop μ-loop → tie.In-loop Inv-loop μ-loop
 turn c = c .before .before .before
+
+-- a limit is at most 9, so it is the same number in 16 bits
+cast-add : tie.Need-cast-add Inv-loop μ-loop
+unfolding caseOf
+cast-add c =
+    let i = turn (c .before .before .before) in
+    omega (arith, covered-limits _ _ _ (start (i .before) .pre .1 .0) .low (i .before .loop .v) (i .loop-test .taken))
 
 add-requires : tie.Need-add-requires Inv-loop μ-loop
 add-requires c κs =
@@ -57,8 +66,8 @@ charge-nodes-spec =
     (λ c. omega (arith, low (c .before)))
     (λ c. let i = c .before .before in omega (arith, i .loop-test .taken, start (i .before) .pre .0 .counted .room))
     (λ c κs. search needs)
-    (λ c. omega (arith, low (turn (c .before .before))))
     (λ c. low (turn (c .before .before)))
+    cast-add
     add-requires
     (λ c. omega (arith, low (turn (added c))))
     (λ c. omega (arith, turn (added c) .loop-test .taken))

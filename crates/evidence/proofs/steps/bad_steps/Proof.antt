@@ -22,7 +22,7 @@ returns c =
     let a = c .before .before .before in
     let s = a .before .before .before .before in
     let p = s .before .before .pre .1 in
-    reached-after _ _ _ (p .1 .0) _ (a .before .before .loop .inv) (a .if1 .taken) (p .0) _ (c .before .before .from-at .ensures) (c .if2 .taken)
+    reached-after _ _ _ (p .1 .0) _ (a .before .before .loop .inv) (a .if1 .taken) (p .0) _ (c .before .before .from-at .ensures) (omega (arith, c .if2 .taken))
 
 bad-step-requires : tie.Need-bad-step-requires Inv-loop μ-loop
 bad-step-requires c κs =
@@ -45,7 +45,7 @@ bad-step-requires c κs =
                 there = a .if1 .taken;
                 from-is = b .from-at .ensures;
                 low = omega (arith, w .above _ (omega arith) (a .if1 .taken), b .from-at .ensures);
-                high = c .if2 .left;
+                high = omega (arith, c .if2 .left);
               },
             ),
           ),

@@ -17,12 +17,12 @@ abbrev μ-loop : tie.MeasureT-loop
 loop-again : tie.Need-loop-again Inv-loop μ-loop
 loop-again c =
     let a = c .before .before .before in
-    halves-low _ _ _ _ _ (a .loop .inv) (a .before .before .pre .1) _ _ (omega arith) (omega arith) (c .before .from-at .ensures) _ refl (c .if1 .taken)
+    halves-low _ _ _ _ _ (a .loop .inv) (a .before .before .pre .1) _ _ (omega arith) (omega arith) (c .before .from-at .ensures) _ refl (omega (arith, c .if1 .taken))
 
 loop-again-2 : tie.Need-loop-again-2 Inv-loop μ-loop
 loop-again-2 c =
     let a = c .before .before .before in
-    halves-high _ _ _ _ _ (a .loop .inv) (a .before .before .pre .1) _ _ (omega arith) (omega arith) (c .before .from-at .ensures) _ refl (c .if1 .left)
+    halves-high _ _ _ _ _ (a .loop .inv) (a .before .before .pre .1) _ _ (omega arith) (omega arith) (c .before .from-at .ensures) _ refl (omega (arith, c .if1 .left))
 
 pub first-edge-spec : {M : Type 1} → statement M
 first-edge-spec =
