@@ -1,4 +1,4 @@
--- The time put together: the check's refusals, else what the costs come to for the total of the check's numbers.
+-- The time put together: the layout's refusals, else the answer for a file that is laid out; and what is promised of it.
 use Prim.Native.Nat.{ℕ}
 use native.Mathlib.Omega.{arith}
 use mathlib.Core.Path.{_≡_, refl, sym, _∙_, ap, subst}
@@ -11,22 +11,16 @@ use Rattle.paper.specs.declared.Verdict.the-variants as Verdicts
 use Rattle.paper.specs.declared.TimeAnswer.{TimeAnswer}
 use Rattle.paper.specs.declared.TimeAnswer.the-variants.{Time, Refused}
 use Rattle.paper.specs.Answers.{toldTime}
-use Rattle.paper.specs.Bounds.{totalBound}
-use Rattle.paper.specs.Files.{trailerOf, caseOf, readCase}
-use Rattle.paper.specs.Known.{Shaped}
+use Rattle.paper.specs.Files.{trailerOf, readCase}
 use Rattle.paper.specs.Rules.{follow}
 use Rattle.paper.specs.Verdicts.{fileVerdict}
-use Rattle.paper.specs.Times.{graphTime, timeRules, timeAnswer, fileTime, timeVerdict, fileTimeAnswer, TimeHolds}
-use Rattle.paper.proofs.VerdictLaws.{graph-kept}
+use Rattle.paper.specs.Times.{timeRules, timeAnswer, fileTime, timeVerdict, fileTimeAnswer, TimeHolds}
 use Rattle.layout.specs.Layouts.{layoutOf}
 use Rattle.layout.specs.declared.Layout.the-variants as Layouts
 use Rattle.layout.proofs.Laws.{read-rules, refused-rules, read-trailer}
-use Rattle.ruling.specs.Ruled.{written, Ruled}
-use Rattle.timing.specs.Answering.{answerFor}
+use Rattle.clock.specs.Timed.{timeFor}
 use Rattle.theory.proofs.Accepted.{accepted-time}
-use Rattle.theory.proofs.Printed.{total-printed}
 use Rattle.bolgverk.specs.Promises.{TimePromise}
-use Rattle.bolgverk.specs.Timed.{timeFor}
 
 -- a refusal tells no time, and a time that is told is the one that the rules were asked about
 time-told : (x time : ℕ) (v : Verdict) → timeAnswer v x ≡ Time time → (v ≡ Verdicts.Accepted) × (x ≡ time)
@@ -40,29 +34,6 @@ time-told x time (Verdicts.Refused r) h = let z : _≡_ {A = ℕ} 0 1 = cc in ab
 follow-accepted : (v w : Verdict) → follow v w ≡ Verdicts.Accepted → v ≡ Verdicts.Accepted
 follow-accepted Verdicts.Accepted w h = refl
 follow-accepted (Verdicts.Refused r) w h = h
-
-module _ (f : List ℕ) (trailer : Trailer) (costs : List ℕ) (penalty p : ℕ) (lent : List ℕ) (v : Verdict) (after : List ℕ) (j : Ruled f trailer p lent v after) where
-  -- what the answer is for a verdict of the check's rules
-  abbrev answered : Verdict → TimeAnswer
-  answered u =
-      let e = caseOf f trailer in
-      let time = graphTime e (λ i. getD costs i 0) penalty (totalBound e p) in
-      timeAnswer (follow u (timeRules (e .nodes) (length costs) time Verdicts.Accepted)) time
-
-  pub refused-time : (r : Refusal) → v ≡ Verdicts.Refused r → Refused r ≡ timeFor f trailer costs penalty p
-  unfolding timeFor
-  refused-time r h = ap answered (sym h ∙ j .answer)
-
-  module _ (h : v ≡ Verdicts.Accepted) where
-    pub time-shaped : Shaped (caseOf f trailer)
-    time-shaped = graph-kept (caseOf f trailer) _ (sym (j .answer) ∙ h) .0
-
-    total : getD after 0 0 ≡ totalBound (caseOf f trailer) p
-    total = ap (λ (l : List ℕ). getD l 0 0) (j .numbers ∙ ap (written f trailer p lent) h) ∙ total-printed (caseOf f trailer) p _
-
-    pub accepted-answer : (r : TimeAnswer) → r ≡ answerFor (caseOf f trailer) costs penalty (getD after 0 0) → r ≡ timeFor f trailer costs penalty p
-    unfolding timeFor answerFor
-    accepted-answer r z = z ∙ ap (answerFor (caseOf f trailer) costs penalty) total ∙ ap answered (sym h ∙ j .answer)
 
 module _ (f costs : List ℕ) (penalty p : ℕ) where
   time-answered : (r : TimeAnswer) → r ≡ fileTimeAnswer f costs penalty p → (time : ℕ) → r ≡ Time time → TimeHolds (readCase f) p (λ v. getD costs v 0) penalty time

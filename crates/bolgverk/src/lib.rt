@@ -1,8 +1,5 @@
 // The public face of Bolgverk: every public operation, each thin, with its whole promise. Each takes every input.
 ghost use Rattle.bolgverk.specs.Promises.{StepPromise, BlockPromise, SetPromise, TracePromise, CheckPromise, WritePromise, FindPromise, SalvagePromise, WaysPromise, TimePromise};
-ghost use mathlib.Core.Path.{_≡_};
-ghost use Rattle.paper.specs.Known.{Laid};
-ghost use Rattle.bolgverk.specs.Timed.{timeFor};
 use layout::Layout;
 use paper::Address;
 use paper::Block;
@@ -16,7 +13,6 @@ use paper::SetState;
 use paper::StepAnswer;
 use paper::TimeAnswer;
 use paper::TraceAnswer;
-use paper::Trailer;
 use paper::Verdict;
 use paper::WaysAnswer;
 use paper::WriteAnswer;
@@ -114,26 +110,6 @@ pub fn all_ways(sets: u8, blocks: &[u16]) -> WaysAnswer
     onepass::all_ways(sets, blocks)
 }
 
-// The total is the first of the check's numbers. For a file that passes rules 1 to 5; the tables are overwritten.
-fn time_in(
-    file: &[u8],
-    trailer: Trailer,
-    costs: &[u32],
-    penalty: u32,
-    interruptions: u16,
-    numbers: &mut [u64; LIST_LENGTH],
-    table: &mut [u32; MOST_NODES],
-) -> TimeAnswer
-    requires { ⌜ Laid (now file) trailer ⌝ }
-    ensures { λ r. ⌜ r ≡ timeFor (now (file .entry)) trailer (now (costs .entry)) penalty interruptions ⌝ }
-{
-    let verdict = ruling::rule_on(file, trailer, interruptions, numbers);
-    if let Verdict::Refused(r) = verdict {
-        return TimeAnswer::Refused(r);
-    }
-    timing::timed(file, trailer, costs, penalty, numbers[0], table)
-}
-
 // "The check's own but its 20, then 20 for a cost list of the wrong length, then 27 if the time exceeds 9,223,372,036,854,775,807; both at place 0."
 pub fn time(file: &[u8], costs: &[u32], penalty: u32, interruptions: u16) -> TimeAnswer
     ensures { λ r. ⌜ TimePromise (now (file .entry)) (now (costs .entry)) penalty interruptions r ⌝ }
@@ -143,7 +119,7 @@ pub fn time(file: &[u8], costs: &[u32], penalty: u32, interruptions: u16) -> Tim
         Layout::Read(trailer) => {
             let mut numbers: [u64; LIST_LENGTH] = [0; LIST_LENGTH];
             let mut table: [u32; MOST_NODES] = [0; MOST_NODES];
-            time_in(
+            clock::time_on(
                 file,
                 trailer,
                 costs,

@@ -6,15 +6,15 @@ use Rattle.bolgverk.proofs.Timing.{unread-time, read-time}
 use Rattle.bolgverk.proofs.time.Statement.{statement}
 use Rattle.bolgverk.proofs.time.Tie as tie
 
-time-in-requires : tie.Need-time-in-requires
-time-in-requires c κs =
+time-on-requires : tie.Need-time-on-requires
+time-on-requires c κs =
     let m = c .before .before .before in
     read-laid _ _ (sym (m .before .before .layout-of .ensures) ∙ m .read .given .1)
 
 returns : tie.Need-returns
 returns c =
     let m = c .before .before .before .before in
-    read-time _ _ _ _ _ (sym (m .before .before .layout-of .ensures) ∙ m .read .given .1) _ (c .time-in .ensures)
+    read-time _ _ _ _ _ (sym (m .before .before .layout-of .ensures) ∙ m .read .given .1) _ (c .time-on .ensures)
 
 returns-2 : tie.Need-returns-2
 returns-2 c =
@@ -26,7 +26,7 @@ time-spec =
     tie.close
     (tie.spec
     (λ c κs. search needs) (λ c. search needs)
-    time-in-requires
+    time-on-requires
     (λ c. search needs)
     returns
     returns-2)

@@ -1,8 +1,8 @@
--- `bolgverk::time_in`: the check's refusals, else the answer for number 0 of its list. v is where the rules were judged.
+-- `clock::time_on`: the check's refusals, else the answer for number 0 of its list. v is where the rules were judged.
 use borrow.Author.Needs.{needs}
-use Rattle.bolgverk.proofs.Timing.{refused-time, time-shaped, accepted-answer}
-use Rattle.bolgverk.proofs.time_in.Statement.{statement}
-use Rattle.bolgverk.proofs.time_in.Tie as tie
+use Rattle.clock.proofs.Totals.{refused-time, time-shaped, accepted-answer}
+use Rattle.clock.proofs.time_on.Statement.{statement}
+use Rattle.clock.proofs.time_on.Tie as tie
 
 returns : tie.Need-returns
 returns c =
@@ -22,8 +22,8 @@ returns-2 c =
     let v = t .before .before in
     accepted-answer _ _ _ _ _ _ _ _ (v .rule-on .ensures) (t .enum-told .given .1) _ (c .timed .ensures)
 
-pub time-in-spec : {M : Type 1} → statement M
-time-in-spec =
+pub time-on-spec : {M : Type 1} → statement M
+time-on-spec =
     tie.close
     (tie.spec
     (λ c κs. search needs) (λ c. search needs)
