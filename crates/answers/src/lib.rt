@@ -1,4 +1,6 @@
 // The answers of `pipe`, each made in lent bytes: docs/PIPE.md in words, crates/frames/specs/Frames.antt as definitions. What is read and what is written is the program's.
+#![tactic(auto)]
+
 pub mod addresses;
 pub mod checks;
 pub mod finds;

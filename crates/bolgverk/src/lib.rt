@@ -1,4 +1,6 @@
 // The public face of Bolgverk: every public operation, each thin, with its whole promise. Each takes every input.
+#![tactic(auto)]
+
 ghost use Rattle.bolgverk.specs.Promises.{StepPromise, BlockPromise, SetPromise, TracePromise, CheckPromise, WritePromise, FindPromise, SalvagePromise, WaysPromise, TimePromise};
 
 use layout::Layout;

@@ -1,4 +1,6 @@
 // The bounds of facts, of sets and in all, by the paper's formulas: one pass over the facts, one over the nodes, one over the sets.
+#![tactic(auto)]
+
 ghost use Rattle.std.specs.Prelude.{◌≡◌, ◌++◌, ◌≤◌, length, drop};
 ghost use Rattle.paper.specs.Bounds as Bounds;
 ghost use Rattle.paper.specs.Files as Files;

@@ -1,4 +1,6 @@
 // The time of a file that is laid out: the check's refusals first, then what the costs come to for the total of its numbers.
+#![tactic(auto)]
+
 ghost use Rattle.std.specs.Prelude.{◌≡◌};
 ghost use Rattle.paper.specs.Known.{Laid};
 ghost use Rattle.clock.specs.Timed.{time_for};

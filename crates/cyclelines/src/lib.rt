@@ -1,4 +1,6 @@
 // What `cycles` prints, as bytes: the time of a case file, or the refusal.
+#![tactic(auto)]
+
 ghost use Rattle.std.specs.Prelude.{◌≡◌, true, ◌+◌, ◌*◌, ◌≤◌, length};
 ghost use Rattle.paper.specs.Listings.{bytes, line, refusal_line};
 ghost use Rattle.paper.specs.Times.{file_time_answer};

@@ -1,5 +1,7 @@
 // Prints the time of the case file on standard input, which the penalty, the number of interruptions and the costs stand before, or the refusal.
 // Where it cannot read or write, it says so on standard error.
+#![tactic(auto)]
+
 use libc::{STDERR_FILENO, STDIN_FILENO, STDOUT_FILENO};
 
 // One byte more than is allowed shows that the input is longer.

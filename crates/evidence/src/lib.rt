@@ -1,4 +1,6 @@
 // One fact and its evidence: rules 14, 16 to 18, 24 and 25. Nodes, edges and rows are read straight from the file.
+#![tactic(auto)]
+
 ghost use Rattle.std.specs.Prelude.{◌≡◌, ◌+◌, ◌<◌, ◌≤◌};
 ghost use Rattle.paper.specs.Answers.{refuse_at};
 ghost use Rattle.paper.specs.Lists.{least};

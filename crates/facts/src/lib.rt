@@ -1,4 +1,6 @@
 // Rules 11 to 19: the facts judged in turn, and what is left after the last.
+#![tactic(auto)]
+
 ghost use Rattle.std.specs.Prelude.{◌≡◌, ◌+◌, ◌≤◌, ltb};
 ghost use Rattle.paper.specs.Facts as Facts;
 ghost use Rattle.paper.specs.Files.{end_at, head_end, case_of};

@@ -1,4 +1,6 @@
 // "Find the facts ourselves": the smallest age limit of a block in a scope, and the rows. crates/search has the definitions that the code follows, and why they find what is gathered.
+#![tactic(auto)]
+
 ghost use Rattle.std.specs.Prelude.{◌≡◌, length};
 ghost use Rattle.paper.specs.Answers.{told_find};
 ghost use Rattle.paper.specs.Files.{case_of};

@@ -1,4 +1,6 @@
 // The paper's formulas: the bound of a fact, a policy's lines each, and the floor of M(l).
+#![tactic(auto)]
+
 ghost use Rattle.std.specs.Prelude.{◌≡◌, ◌+◌, ◌-◌, ◌≤◌, min};
 ghost use Rattle.paper.specs.Bounds as Bounds;
 ghost use Rattle.paper.specs.Ceilings as Ceilings;

@@ -1,4 +1,6 @@
 // The frames of `pipe`, as bytes: docs/PIPE.md in words, specs/Frames.antt as definitions.
+#![tactic(auto)]
+
 pub mod heads;
 pub mod numbers;
 pub mod places;

@@ -1,4 +1,6 @@
 // One step of the search: rows of eight numbers by value, and what an edge makes of the row of its end. `Steps` of crates/search/specs has the definitions.
+#![tactic(auto)]
+
 ghost use Rattle.std.specs.Prelude.{◌≡◌, ◌≤◌};
 ghost use Rattle.paper.specs.Cases.{Case, Fact};
 ghost use Rattle.search.specs.Steps as Steps;

@@ -1,4 +1,6 @@
 // Edges, loops, paths and counts: rules 6 to 10 and 26.
+#![tactic(auto)]
+
 ghost use Rattle.std.specs.Prelude.{◌≡◌, ◌≤◌, length};
 ghost use Rattle.paper.specs.Ceilings.{most_nodes};
 ghost use Rattle.paper.specs.Files.{case_of};

@@ -1,4 +1,6 @@
 // A file's trailer and what it says: rules 1 to 5.
+#![tactic(auto)]
+
 ghost use Rattle.std.specs.Prelude.{◌≡◌, ◌≤◌, length};
 ghost use Rattle.paper.specs.Files as Files;
 ghost use Rattle.paper.specs.Lists as Lists;

@@ -1,4 +1,6 @@
 // The eight lines of a set by value, on plain arrays: looked through, shifted, or one of them replaced. No branch: each of the eight is chosen by a comparison, so that the compiler can take all of them at once.
+#![tactic(auto)]
+
 ghost use Rattle.std.specs.Prelude.{◌≡◌, cond, ◌≤◌, eqb, ltb};
 ghost use Rattle.lines.specs.Lines.{weighed, kept_after, moved_by, replaced_by};
 

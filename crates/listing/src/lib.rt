@@ -1,4 +1,6 @@
 // The listing of a case file: what the programs print, as bytes.
+#![tactic(auto)]
+
 pub mod program;
 
 ghost use Rattle.std.specs.Prelude.{◌+◌, ◌≤◌, length};

@@ -1,4 +1,6 @@
 // The rules of the check on lists instead of a file: 2, 3, 4, 6, 7, and for each fact in turn 12, 13, 15 and 16.
+#![tactic(auto)]
+
 ghost use Rattle.std.specs.Prelude.{◌≡◌};
 ghost use Rattle.paper.specs.Verdicts as Verdicts;
 ghost use Rattle.paper.specs.Writing.{case_in, written_facts};

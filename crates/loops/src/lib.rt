@@ -1,4 +1,6 @@
 // "The loops are handed on as a list of records": they are read from the file into an array, anew for each of rules 8 to 10, and lent to the function that counts.
+#![tactic(auto)]
+
 ghost use Rattle.std.specs.Prelude.{◌≡◌, suc, ◌<◌, ◌≤◌, cond, length, get_or};
 ghost use Rattle.paper.specs.Ceilings.{most_loops};
 ghost use Rattle.paper.specs.Known.{Laid};

@@ -1,4 +1,6 @@
 // The public single step, and the conversions of addresses, blocks and sets.
+#![tactic(auto)]
+
 ghost use Rattle.std.specs.Prelude.{◌≡◌, true, ◌≢◌};
 ghost use Rattle.paper.specs.Machines as Machines;
 ghost use Rattle.paper.specs.Operations as Operations;

@@ -1,4 +1,6 @@
 // "For eight ways the NMRU bits come from a table over all 256 patterns and eight lines (2,048 entries), pattern p and line j at entry 8p + j": four patterns to a line.
+#![tactic(auto)]
+
 ghost use Rattle.std.specs.Prelude.{◌≡◌, ◌+◌, ◌^◌, ◌<◌};
 ghost use Rattle.paper.specs.Machines.{nmru_step};
 ghost use Rattle.paper.specs.NextBits.{next_bits};

@@ -1,4 +1,6 @@
 // "All ways in one pass": what LRU misses with one way, two ways and so on up to eight.
+#![tactic(auto)]
+
 ghost use Rattle.std.specs.Prelude.{◌≡◌, ◌<◌};
 ghost use Rattle.lines.specs.Lines.{weight_of};
 ghost use Rattle.paper.specs.AllWays.{all_ways};

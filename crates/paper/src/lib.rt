@@ -1,4 +1,6 @@
 // The types that cross crate borders. What they mean stands in specs/, section by section of the paper.
+#![tactic(auto)]
+
 ghost use Rattle.std.specs.Prelude.{◌≡◌};
 ghost use Rattle.paper.specs.Answers as Answers;
 

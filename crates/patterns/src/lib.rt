@@ -1,4 +1,6 @@
 // The next-bits table for eight ways and the tree's for 2, 4 and 8, as the bytes that lie beside the board manual: one line a pattern, the pattern in binary, the line that the tree's miss takes, and then the next bits for each line.
+#![tactic(auto)]
+
 ghost use Rattle.std.specs.Prelude.{◌≡◌, true, ◌-◌, ◌^◌, ◌≤◌, ◌<◌, length};
 ghost use Rattle.paper.specs.Machines.{offered};
 ghost use Rattle.paper.specs.NextBits.{next_bits};

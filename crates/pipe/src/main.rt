@@ -1,4 +1,6 @@
 // Every public operation over standard input and output: docs/PIPE.md has the framing. What is answered is made by `answers`; here is what is read, what is written, and in which order.
+#![tactic(auto)]
+
 mod finds;
 mod requests;
 mod salvages;

@@ -1,4 +1,6 @@
 // Words and numbers, put one after another into a lent buffer and then written in one go.
+#![tactic(auto)]
+
 ghost use Rattle.std.specs.Prelude.{◌+◌, ◌≤◌, length};
 ghost use Rattle.paper.specs.Listings.{decimal, line as Listings·line, line_of_two, refusal_line};
 ghost use Rattle.puts.specs.Put.{Fits, Put};

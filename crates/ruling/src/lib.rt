@@ -1,4 +1,6 @@
 // The rules of a file that is laid out, put together: the graph's, then the facts', then the bounds.
+#![tactic(auto)]
+
 ghost use Rattle.std.specs.Prelude.{◌≤◌, length};
 ghost use Rattle.paper.specs.Bounds.{list_length};
 ghost use Rattle.paper.specs.Known.{Laid};

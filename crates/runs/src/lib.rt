@@ -1,4 +1,6 @@
 // The runs over a trace that is not refused, one for each policy: every access steps the machine of its set.
+#![tactic(auto)]
+
 ghost use Rattle.std.specs.Prelude.{◌≡◌, not, ◌≤◌};
 ghost use Rattle.paper.specs.Lists as Lists;
 ghost use Rattle.paper.specs.Policies.{lru_policy, fifo_policy, nmru_policy, tree_policy};

@@ -1,5 +1,7 @@
 // Reads a case file from standard input, writes what is left of it without the facts that are not sound to standard output, and says on standard error
 // which facts were dropped, or why the file is refused. Where it cannot read or write, it says so there too.
+#![tactic(auto)]
+
 use libc::{STDERR_FILENO, STDIN_FILENO, STDOUT_FILENO};
 
 // One byte more than is allowed shows that the input is longer.

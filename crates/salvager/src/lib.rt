@@ -1,4 +1,6 @@
 // "Salvage a file with bad facts": each fact is judged once, then the rest is written, with a list of the facts that are dropped.
+#![tactic(auto)]
+
 ghost use Rattle.std.specs.Prelude.{◌≡◌, length};
 ghost use Rattle.paper.specs.Files.{trailer_of, case_of};
 ghost use Rattle.paper.specs.Known.{Laid, Shaped};

@@ -1,4 +1,6 @@
 // What `salvage` writes, as bytes: the rest of a case file, and the facts that were dropped, in words.
+#![tactic(auto)]
+
 ghost use Rattle.std.specs.Prelude.{◌≡◌, ◌+◌, ◌*◌, ◌≤◌, length, get_or};
 ghost use Rattle.paper.specs.Ceilings.{longest_input};
 ghost use Rattle.paper.specs.Listings.{refusal_line};

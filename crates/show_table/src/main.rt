@@ -1,4 +1,6 @@
 // The next-bits table for eight ways, to lay beside the board manual.
+#![tactic(auto)]
+
 use libc::STDOUT_FILENO;
 
 fn main() {

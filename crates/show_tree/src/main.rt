@@ -1,4 +1,6 @@
 // The tree's next bits for 2, 4 and 8 ways, to lay beside the board manual.
+#![tactic(auto)]
+
 use libc::STDOUT_FILENO;
 
 fn main() {

@@ -1,5 +1,7 @@
 // What a C caller is told of an answer: the number that is returned, and the numbers that are written through pointers.
 // A value is written only where nothing is refused; places are written always, 0 where nothing is refused.
+#![tactic(auto)]
+
 ghost use Rattle.std.specs.Prelude.{◌≡◌};
 ghost use Rattle.paper.specs.Answers.{told_verdict, told_trace, told_outcome, told_block, told_set, told_write, told_find, told_salvage, told_ways, told_time, value_or, limit_or, second_or, counts_or};
 

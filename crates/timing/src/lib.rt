@@ -1,4 +1,6 @@
 // Cycles: the longest way through each loop, inner loops first, and through the graph; and the penalties of its misses.
+#![tactic(auto)]
+
 ghost use Rattle.std.specs.Prelude.{◌≡◌, suc, ◌<◌, ◌≤◌, min, length};
 ghost use Rattle.paper.specs.Ceilings.{most_nodes, most_loops};
 ghost use Rattle.paper.specs.Files.{case_of};

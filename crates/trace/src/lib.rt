@@ -1,4 +1,6 @@
 // The trace run: what is refused, and the run of the policy.
+#![tactic(auto)]
+
 ghost use Rattle.std.specs.Prelude.{◌≡◌, ◌+◌, ◌≤◌, length};
 ghost use Rattle.paper.specs.Lists as Lists;
 ghost use Rattle.paper.specs.Traces as Traces;

@@ -1,4 +1,6 @@
 // The tree's step: a miss by one table, and what an access turns by another, each for 2, 4 and 8 ways at once. A table is handed over, since it is made where it is named.
+#![tactic(auto)]
+
 ghost use Rattle.std.specs.Prelude.{◌≡◌, true, ◌≢◌, ◌^◌, ◌<◌, ◌-◌};
 ghost use Rattle.std.specs.Int.Count.{count_trailing_zeros};
 ghost use Rattle.paper.specs.Machines.{none, offered, legal};

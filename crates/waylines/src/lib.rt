@@ -1,4 +1,6 @@
 // What `ways` prints, as bytes: the misses of a trace with one way to eight, or the refusal.
+#![tactic(auto)]
+
 ghost use Rattle.std.specs.Prelude.{◌≡◌, ◌+◌, ◌*◌, ◌≤◌, length, true};
 ghost use Rattle.frames.specs.Room.{accesses};
 ghost use Rattle.paper.specs.Listings.{refusal_line};

@@ -1,4 +1,6 @@
 // Reads a number of sets and a trace from standard input and prints what LRU misses with one way to eight, or the refusal. Where it cannot read or write, it says so on standard error.
+#![tactic(auto)]
+
 use libc::{STDERR_FILENO, STDIN_FILENO, STDOUT_FILENO};
 
 fn answer(input: &mut [u8]) {

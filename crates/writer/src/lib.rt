@@ -1,4 +1,6 @@
 // The writer: "nodes, edges, loops and facts in, case file out in a lent buffer".
+#![tactic(auto)]
+
 ghost use Rattle.std.specs.Prelude.{◌≡◌, ◌+◌, ◌*◌, ◌≤◌, ltb, length};
 ghost use Rattle.paper.specs.Files.{facts_at};
 ghost use Rattle.paper.specs.Records.{bits16, head_size, trailer_size};
