@@ -13,7 +13,7 @@ use crate::{amounts, chains, heads, outers};
 use paper::{FACTS_FROM, Trailer};
 
 // What a fact costs, and where the next one stands.
-#[derive(Drop)]
+#[derive(Clone, Copy)]
 pub struct Cost {
     pub block: u16,
     pub limit: u16,

@@ -8,7 +8,7 @@ ghost use Rattle.charge.specs.Tables as Tables;
 use paper::{Loop, Trailer};
 
 // A fact's head, the range of its scope, and where the next fact stands.
-#[derive(Drop)]
+#[derive(Clone, Copy)]
 pub struct Head {
     pub scope: u16,
     pub block: u16,

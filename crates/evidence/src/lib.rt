@@ -22,7 +22,7 @@ pub use steps::bad_steps;
 use steps::step_number;
 
 // The fact at hand: where it stands, its scope's first and last node, its block b, its limit, and b's set.
-#[derive(Drop)]
+#[derive(Clone, Copy)]
 pub struct Head {
     pub place: usize,
     pub first: u16,

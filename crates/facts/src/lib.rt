@@ -14,7 +14,7 @@ use layout::HEAD_SIZE;
 use paper::{Previous, Refusal, Trailer, Verdict};
 
 // "A fact names a scope …, a block b and an age limit l", as they stand in the file.
-#[derive(Drop)]
+#[derive(Clone, Copy)]
 pub struct Names {
     pub scope: u16,
     pub block: u16,
@@ -22,13 +22,13 @@ pub struct Names {
 }
 
 // A fact that passes its turn: what it is to the next one, and where it ends.
-#[derive(Drop)]
+#[derive(Clone, Copy)]
 pub struct Kept {
     pub previous: Previous,
     pub end: usize,
 }
 
-#[derive(Drop)]
+#[derive(Clone, Copy)]
 pub enum Turn {
     Kept(Kept),
     Refused(Refusal),

@@ -13,14 +13,14 @@ ghost use Rattle.frames.specs.Places.{head_size, length_width, count_width, last
 use paper::Refusal;
 
 // What an operation says first: a refusal, number and places 0 where it does not refuse, and a value.
-#[derive(Drop)]
+#[derive(Clone, Copy)]
 pub struct Head {
     pub refusal: Refusal,
     pub value: u64,
 }
 
 // What a salvage says first: the head with the length of the rest, and how many facts were dropped.
-#[derive(Drop)]
+#[derive(Clone, Copy)]
 pub struct SalvageHead {
     pub head: Head,
     pub count: u64,

@@ -13,7 +13,7 @@ pub use rows::{lowered, plain};
 use rows::{opened, put, put_slots};
 
 // What is sought: the scope by its number and by its first and last node, the block b, the ways, b's set, and the number of sets.
-#[derive(Drop)]
+#[derive(Clone, Copy)]
 pub struct Sought {
     pub scope: u16,
     pub first: u16,

@@ -10,7 +10,7 @@ ghost use Rattle.graph.specs.Marks as Marks;
 use paper::{Loop, Trailer};
 
 // What a loop writes into a table over the nodes: `value`, at the places from `from` to before `to`.
-#[derive(Drop)]
+#[derive(Clone, Copy)]
 struct Mark {
     from: usize,
     to: usize,

@@ -24,7 +24,7 @@ pub use places::{HEAD_SIZE, end_of, fact_end, facts_at, row_place, rows_size};
 pub use sections::{from_at, loop_at, node_at, range_at, to_at};
 
 // What a file's trailer says, or the first of the rules 1 to 5 that the file breaks.
-#[derive(Drop)]
+#[derive(Clone, Copy)]
 pub enum Layout {
     Read(Trailer),
     Refused(Refusal),

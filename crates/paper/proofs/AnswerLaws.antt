@@ -104,25 +104,25 @@ time_back (TimeAnswers.Time n) = refl
 time_back (TimeAnswers.Refused r) = refl
 
 pub same_verdict : (v v' : Verdict) → told_verdict v ≡ told_verdict v' → v ≡ v'
-same_verdict = same _ _ _ told_verdict verdict_back
+same_verdict = same Verdicts.Refused Verdicts.Accepted (λ n. Verdicts.Accepted) told_verdict verdict_back
 
 pub same_trace : (v v' : TraceAnswer) → told_trace v ≡ told_trace v' → v ≡ v'
-same_trace = same _ _ _ told_trace trace_back
+same_trace = same TraceAnswers.Refused (TraceAnswers.Misses 0) TraceAnswers.Misses told_trace trace_back
 
 pub same_outcome : (v v' : Outcome) → told_outcome v ≡ told_outcome v' → v ≡ v'
-same_outcome = same _ _ _ told_outcome outcome_back
+same_outcome = same Outcomes.Refused Outcomes.Hit outcome told_outcome outcome_back
 
 pub same_block : (v v' : BlockAnswer) → told_block v ≡ told_block v' → v ≡ v'
-same_block = same _ _ _ told_block block_back
+same_block = same BlockAnswers.Refused (block 0) block told_block block_back
 
 pub same_set_lem : (v v' : SetAnswer) → told_set v ≡ told_set v' → v ≡ v'
-same_set_lem = same _ _ _ told_set set_back
+same_set_lem = same SetAnswers.Refused (set 0) set told_set set_back
 
 pub same_write : (v v' : WriteAnswer) → told_write v ≡ told_write v' → v ≡ v'
-same_write = same _ _ _ told_write write_back
+same_write = same WriteAnswers.Refused (WriteAnswers.Written 0) WriteAnswers.Written told_write write_back
 
 pub same_find : (v v' : FindAnswer) → told_find v ≡ told_find v' → v ≡ v'
-same_find = same _ _ _ told_find find_back
+same_find = same FindAnswers.Refused FindAnswers.None FindAnswers.Found told_find find_back
 
 pub same_salvage : (v v' : SalvageAnswer) → told_salvage v ≡ told_salvage v' → v ≡ v'
 same_salvage = same_by salvage_answer told_salvage salvage_back
@@ -140,4 +140,4 @@ same_ways v v' e c =
     λ t. record { counts = c t; verdict = f t }
 
 pub same_time : (v v' : TimeAnswer) → told_time v ≡ told_time v' → v ≡ v'
-same_time = same _ _ _ told_time time_back
+same_time = same TimeAnswers.Refused (TimeAnswers.Time 0) TimeAnswers.Time told_time time_back

@@ -8,9 +8,9 @@ use borrow.Author.Tests.{not-false}
 use Rattle.paper.specs.declared.Verdict.{Verdict}
 use Rattle.paper.specs.declared.Verdict.TheVariants.{Accepted}
 use Rattle.paper.specs.Machines.{none}
-use Rattle.paper.specs.Lists.{least, some}
+use Rattle.paper.specs.Lists.{some}
 use Rattle.paper.specs.Cases.{Fact, Case, size, scope_of, row_of, fetches}
-use Rattle.paper.specs.Facts.{wrong_head, bad_head, unfetched, bad_row_at, breaks, bad_step_at, bad_many_at, least_node}
+use Rattle.paper.specs.Facts.{wrong_head, bad_head, unfetched, bad_row_at, bad_step_at, bad_many_at, least_node}
 use Rattle.paper.specs.Rules.{Passes}
 use Rattle.paper.specs.Verdicts.{row_rules, step_rules, many_rules, evidence_rules}
 use Rattle.paper.proofs.Least.{None, none_some, some_none, is_some, least_is}

@@ -1,8 +1,8 @@
 -- A block's set by two products in the place of a division. With s·m = 2^32 + e, where e < s, and x = q·s + r, the product x·m is q·2^32 + y, where y = q·e + r·m < 2^32, and y·s is r·2^32 + x·e, where x·e < 2^22.
-use Prim.Native.Nat.{ℕ, suc, ◌+◌, ◌-◌, ◌*◌, ◌/◌, ◌%◌, ◌<◌, ◌≤◌}
+use Prim.Native.Nat.{ℕ, ◌+◌, ◌-◌, ◌*◌, ◌/◌, ◌%◌, ◌<◌, ◌≤◌}
 use native.Mathlib.Nat.{mul_comm, mul_assoc, add-mul, one-mul, mul-le-mul, mul-le-mul_left, mul-le-mul_right, mul-one, div-add-mod', mod-lt, lt-div-mul-add, div-mul-le_self}
 use native.Mathlib.Omega.{arith}
-use mathlib.Core.Path.{◌≡◌, refl, sym, ap, ◌∙◌}
+use mathlib.Core.Path.{◌≡◌, sym, ap, ◌∙◌}
 
 module _ (x s m e q r : ℕ) (inverse : s * m ≡ 4294967296 + e) (small : e < s) (few : s ≤ 64) (parts : x ≡ q * s + r) (rest : r < s) (block : x < 65536) where
   times_low : q * e ≤ 65535 * 63

@@ -1,6 +1,6 @@
 -- Header visits in the paper's words: "the header visits of the next loop out (1 outside all loops)", and "a node's count is the header visits of its innermost loop".
 -- Every loop's header visits are so the count of its header, and rule 10 tests them all.
-use Prim.Native.Nat.{ℕ, zero, suc, ◌+◌, ◌-◌, ◌*◌, ◌≤◌, ◌<◌, min}
+use Prim.Native.Nat.{ℕ, zero, suc, ◌+◌, ◌-◌, ◌≤◌, ◌<◌, min}
 use native.Mathlib.Omega.{arith}
 use native.Mathlib.Decide.{ℕ_discrete}
 use native.Mathlib.Nat.{mul-pos}

@@ -1,21 +1,17 @@
 -- What the tests of the rules 12, 14, 16 to 18, 24 and 25 say, both ways.
-use Prim.Native.Nat.{ℕ, zero, suc, ◌+◌, ◌-◌, ◌%◌, ◌≤◌, ◌<◌}
+use Prim.Native.Nat.{ℕ, zero, suc, ◌-◌, ◌%◌, ◌≤◌, ◌<◌}
 use native.Mathlib.Omega.{arith}
 use native.Mathlib.Decide.{dec_lt}
-use mathlib.Core.Path.{◌≡◌, refl, sym, ◌∙◌, ap, subst}
+use mathlib.Core.Path.{◌≡◌, refl, ◌∙◌, ap}
 use mathlib.Core.Logic.{◌≢◌, ◌⊎◌, inl, inr, ⊎_elim, ◌↔◌}
 use mathlib.Core.Bool.{Bool, true, false, cond}
 use borrow.Author.Tests.{lt-ltb, le-ltb, eq-eqb, ne_eqb}
 use lib.Dec.{eqb}
 use Rattle.paper.specs.Machines.{none}
-use Rattle.paper.specs.Cases.{Row, Fact, Case, inside, size, scope_of, row_of, same_set, fetches}
-use Rattle.paper.specs.Walks.{Edge}
-use Rattle.paper.specs.Facts.{held, holds, bad_head, unfetched, bad_slot, bad_row, bad_row_at, lacks, after_b, after_many, after_set, breaks, broken_by, bad_step_at, bad_many_at}
-use Rattle.paper.specs.Demands.{Other}
-use Rattle.paper.proofs.Least.{None}
+use Rattle.paper.specs.Cases.{Row, Fact, Case, same_set}
+use Rattle.paper.specs.Facts.{held, holds, bad_slot, bad_row, lacks, after_b, after_many, after_set, breaks, broken_by}
 use Rattle.paper.proofs.Says.{Says, says_lt, says_le, says_eq, says_not, says_and, says_or, says_some, says_cond, says_false, says_true, says_is, says_stable}
-use Rattle.paper.proofs.Meaning.{In, Holds, SoundRow, Carried, EdgeRule, SoundEvidence, SoundHead}
-use Rattle.paper.proofs.GraphLaws.{inside_says}
+use Rattle.paper.proofs.Meaning.{Holds, SoundRow, Carried, EdgeRule}
 
 -- how many blocks a row holds
 pub held_set : (r : Row) → r.number < 8 → held r ≡ r.number

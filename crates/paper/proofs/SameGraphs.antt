@@ -2,13 +2,13 @@
 use Prim.Native.Nat.{ℕ, zero, suc, ◌-◌, ◌≤◌, ◌<◌}
 use native.Mathlib.Omega.{arith}
 use native.Mathlib.Decide.{ℕ_discrete}
-use mathlib.Core.Path.{◌≡◌, refl, sym, ◌∙◌, ap}
+use mathlib.Core.Path.{◌≡◌, refl, ◌∙◌, ap}
 use mathlib.Core.Logic.{◌≢◌}
 use mathlib.Core.Bool.{Bool, ◌&&◌}
 use borrow.Author.Tests.{eq-eqb, ne_eqb}
 use lib.Dec.{eqb, ltb}
 use Rattle.paper.specs.declared.Verdict.{Verdict}
-use Rattle.paper.specs.Lists.{least, some, chain}
+use Rattle.paper.specs.Lists.{some, chain}
 use Rattle.paper.specs.Machines.{none}
 use Rattle.paper.specs.Cases.{Case, inside, range_of}
 use Rattle.paper.specs.Known.{Shaped}

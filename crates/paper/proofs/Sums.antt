@@ -2,8 +2,8 @@
 use Prim.Native.Nat.{ℕ, zero, suc, ◌+◌, ◌*◌, ◌≤◌, ◌<◌, min}
 use native.Mathlib.Omega.{arith}
 use native.Mathlib.Numerals.{add-one}
-use native.Mathlib.Nat.{mul-suc, mul-zero}
-use mathlib.Core.Path.{◌≡◌, refl, sym, ◌∙◌, ap}
+use native.Mathlib.Nat.{mul-suc}
+use mathlib.Core.Path.{◌≡◌, refl, ◌∙◌}
 use Rattle.paper.specs.Lists.{sum_to, product_to, lowest_to}
 
 -- a loop that adds numbers of at most b has come to j with x

@@ -1,12 +1,12 @@
 -- The laws of `table`, and of a loop that writes one into a lent list.
-use Prim.Native.Nat.{ℕ, zero, suc, ◌+◌, ◌-◌, ◌≤◌, ◌<◌}
+use Prim.Native.Nat.{ℕ, zero, suc, ◌+◌, ◌≤◌, ◌<◌}
 use native.Mathlib.Omega.{arith}
 use native.Mathlib.Numerals.{add-one}
 use mathlib.Core.List.{List, [], ◌∷◌, ◌++◌, append_assoc}
 use mathlib.Core.Path.{◌≡◌, refl, sym, ◌∙◌, ap, ap₂}
 use lib.ListN.{length, get_or, drop, set, length-append, length-drop}
 use Rattle.paper.specs.Lists.{table}
-use lib.Seq.{drop-cons, set_at, append_snoc}
+use lib.Seq.{drop-cons, set_at}
 
 -- the last value stands at the end
 pub table_more : {A : Type 0} (g : ℕ → A) (n : ℕ) → table g (suc n) ≡ table g n ++ (g n ∷ [])

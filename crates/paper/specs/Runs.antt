@@ -1,5 +1,5 @@
 -- A walk run over the contents of all sets: each visit fetches its node's block, and each fetch hits or misses. A handler may change the contents in between.
-use Rattle.std.specs.Prelude.{ℕ, suc, ◌+◌, ◌%◌, ◌<◌, ◌≡◌, Bool, true, false, cond, not, ◌&&◌, List, [], ◌∷◌, ◌++◌, eqb, length}
+use Rattle.std.specs.Prelude.{ℕ, suc, ◌+◌, ◌%◌, ◌<◌, ◌≡◌, Bool, true, cond, ◌&&◌, List, [], ◌∷◌, ◌++◌, eqb, length}
 use Rattle.paper.specs.declared.SetState.{SetState}
 use Rattle.paper.specs.Lists.{bit}
 use Rattle.paper.specs.Machines.{none, legal}

@@ -20,31 +20,31 @@ pub use policies::{FIFO, LRU, NMRU, TREE, bits_below, has_floors};
 pub use versions::{UNLIMITED, WITH_W, WITHOUT_W, at_most, is_bad_version};
 
 // "Addresses, block numbers and set numbers, which the sources distinguish, are each kept apart."
-#[derive(Drop)]
+#[derive(Clone, Copy)]
 pub struct Address(pub u32);
 
-#[derive(Drop)]
+#[derive(Clone, Copy)]
 pub struct Block(pub u16);
 
-#[derive(Drop)]
+#[derive(Clone, Copy)]
 pub struct SetNumber(pub u8);
 
 // "is held as eight lines and one byte of bits"
-#[derive(Drop)]
+#[derive(Clone, Copy)]
 pub struct SetState {
     pub lines: [u16; 8],
     pub bits: u8,
 }
 
 // A machine's step: the new state, and whether the access hit.
-#[derive(Drop)]
+#[derive(Clone, Copy)]
 pub struct Stepped {
     pub state: SetState,
     pub hit: bool,
 }
 
 // Which lines stay where they are when a block comes to line 0: those from k on, and, where the block stood in the line with this weight, those after it too.
-#[derive(Drop)]
+#[derive(Clone, Copy)]
 pub struct Shift {
     pub beyond: [u16; 8],
     pub weight: u16,
@@ -52,73 +52,73 @@ pub struct Shift {
 }
 
 // The line that an access goes to, by the value of its bit, and whether the block stands there.
-#[derive(Drop)]
+#[derive(Clone, Copy)]
 pub struct Line {
     pub bit: u16,
     pub hit: bool,
 }
 
 // A number of sets, and what takes the place of a division by it.
-#[derive(Drop)]
+#[derive(Clone, Copy)]
 pub struct Sets {
     pub count: u64,
     pub inverse: u64,
 }
 
 // "Each returns number and place." "The result gets a second place": the node or the edge at which a fact's evidence breaks, and 0 for every other refusal.
-#[derive(Drop)]
+#[derive(Clone, Copy)]
 pub struct Refusal {
     pub number: u8,
     pub place: usize,
     pub second: usize,
 }
 
-#[derive(Drop)]
+#[derive(Clone, Copy)]
 pub enum Verdict {
     Accepted,
     Refused(Refusal),
 }
 
-#[derive(Drop)]
+#[derive(Clone, Copy)]
 pub enum TraceAnswer {
     Misses(usize),
     Refused(Refusal),
 }
 
-#[derive(Drop)]
+#[derive(Clone, Copy)]
 pub enum Outcome {
     Hit,
     Miss,
     Refused(Refusal),
 }
 
-#[derive(Drop)]
+#[derive(Clone, Copy)]
 pub struct StepAnswer {
     pub state: SetState,
     pub outcome: Outcome,
 }
 
-#[derive(Drop)]
+#[derive(Clone, Copy)]
 pub enum BlockAnswer {
     Found(Block),
     Refused(Refusal),
 }
 
-#[derive(Drop)]
+#[derive(Clone, Copy)]
 pub enum SetAnswer {
     Found(SetNumber),
     Refused(Refusal),
 }
 
 // "Case file out in a lent buffer": how many bytes of it the file takes.
-#[derive(Drop)]
+#[derive(Clone, Copy)]
 pub enum WriteAnswer {
     Written(usize),
     Refused(Refusal),
 }
 
 // "the smallest age limit up to k for which evidence exists", or none.
-#[derive(Drop)]
+#[derive(Clone, Copy)]
 pub enum FindAnswer {
     Found(u16),
     None,
@@ -126,34 +126,34 @@ pub enum FindAnswer {
 }
 
 // "writes the rest, with a list of dropped facts": how many bytes the rest takes, and how many facts were dropped.
-#[derive(Drop)]
+#[derive(Clone, Copy)]
 pub struct Salvage {
     pub length: usize,
     pub dropped: usize,
 }
 
-#[derive(Drop)]
+#[derive(Clone, Copy)]
 pub enum SalvageAnswer {
     Salvaged(Salvage),
     Refused(Refusal),
 }
 
 // "One pass gives eight counts": the misses with one way, two ways and so on up to eight. A refusal has zeros.
-#[derive(Drop)]
+#[derive(Clone, Copy)]
 pub struct WaysAnswer {
     pub counts: [u64; 8],
     pub verdict: Verdict,
 }
 
 // "Only the time is returned."
-#[derive(Drop)]
+#[derive(Clone, Copy)]
 pub enum TimeAnswer {
     Time(u64),
     Refused(Refusal),
 }
 
 // "The loops are handed on as a list of records: first node, last node, bound"; and "a further 32-bit number W", how often a whole walk visits the header at most.
-#[derive(Drop)]
+#[derive(Clone, Copy)]
 pub struct Loop {
     pub first: u16,
     pub last: u16,
@@ -162,7 +162,7 @@ pub struct Loop {
 }
 
 // What the last 32 bytes of a case file say of it, besides the offsets.
-#[derive(Drop)]
+#[derive(Clone, Copy)]
 pub struct Trailer {
     pub nodes: u16,
     pub edges: u16,
@@ -175,7 +175,7 @@ pub struct Trailer {
 }
 
 // What the order of facts asks of the previous fact: whether there is one, its block, and its scope's last node.
-#[derive(Drop)]
+#[derive(Clone, Copy)]
 pub struct Previous {
     pub any: bool,
     pub block: u16,

@@ -9,7 +9,7 @@ use frames::places;
 use libc::{STDIN_FILENO, STDOUT_FILENO};
 
 // How a request ends: it is answered; there is none, or nobody takes the answer; or it cannot be answered, and why.
-#[derive(Drop)]
+#[derive(Clone, Copy)]
 pub enum Frame {
     Answered,
     Over,

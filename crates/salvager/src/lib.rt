@@ -24,7 +24,7 @@ const SPANS: usize = 2 * MOST_FACTS;
 const WHYS: usize = 3 * MOST_FACTS;
 
 // How many facts are kept, how many are dropped, and how many bytes those have that are kept.
-#[derive(Drop)]
+#[derive(Clone, Copy)]
 pub struct Sifted {
     pub kept: u16,
     pub dropped: u16,

@@ -12,7 +12,7 @@ ghost use Rattle.salvaging.specs.Said as Said;
 use paper::{LONGEST_INPUT, Refusal, SalvageAnswer};
 
 // How many bytes the rest has, and how many what is said.
-#[derive(Drop)]
+#[derive(Clone, Copy)]
 pub struct Saved {
     pub rest: usize,
     pub said: usize,

@@ -14,7 +14,7 @@ use crate::steps::number;
 use paper::{MOST_LOOPS, MOST_NODES, Trailer};
 
 // Ways from the node `first`, over nodes before `end`, where the loops from number `k` on are steps.
-#[derive(Drop)]
+#[derive(Clone, Copy)]
 pub struct Level {
     pub k: u16,
     pub first: u16,

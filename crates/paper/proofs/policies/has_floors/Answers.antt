@@ -6,8 +6,7 @@ use lib.Dec.{eqb}
 use borrow.Author.Tests.{eq-eqb, ne_eqb}
 use Rattle.paper.specs.Policies.{parts_of}
 use Rattle.paper.proofs.PolicyLaws.{by_policy}
-use Rattle.paper.proofs.policies.has_floors.Statement.{statement}
-use Rattle.paper.proofs.policies.has_floors.Tie as tie
+use Rattle.paper.proofs.policies.has_floors.Goals as goal
 
 fifo-alone : (p : ℕ) → eqb p 1 ≡ (parts_of p).floors
 fifo-alone p =
@@ -17,8 +16,5 @@ fifo-alone p =
     (λ e. ne_eqb p 1 (omega arith))
     (λ h. ne_eqb p 1 (omega arith))
 
-returns : tie.Need-returns
+pub returns : goal.returns
 returns c = fifo-alone c.args.policy
-
-pub has-floors-spec : {M : Type 1} → statement M
-has-floors-spec = tie.close (tie.spec returns)
