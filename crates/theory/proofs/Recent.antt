@@ -24,10 +24,10 @@ behind_wider : {b : ℕ} {R : List ℕ} {q : ℕ} {l : List ℕ} (R' : List ℕ)
 behind_wider R' s (old h) = old h
 behind_wider R' s (more h f) = more (s _ h) (behind_wider R' s f)
 
-behind_shift : (b x c : ℕ) (R : List ℕ) (q : ℕ) {l : List ℕ} → x ≢ b → 1 ≤ cnt c R → Behind b R q l → Behind b R q (shift x c l)
+behind_shift : (b x : ℕ) (R : List ℕ) (q c : ℕ) {l : List ℕ} → x ≢ b → 1 ≤ cnt c R → Behind b R q l → Behind b R q (shift x c l)
 unfolding shift
-behind_shift b x c R q {l = []} n i (old h) = old h
-behind_shift b x c R q {l = y ∷ l} n i (old h) =
+behind_shift b x R q c {l = []} n i (old h) = old h
+behind_shift b x R q c {l = y ∷ l} n i (old h) =
     more
     {l = cond (eqb y x) l (shift x y l)}
     i
@@ -35,8 +35,8 @@ behind_shift b x c R q {l = y ∷ l} n i (old h) =
       | yes p ↦ rw eq-eqb (old {l = l} (omega (arith, line_next b y l (λ e. n (sym p ∙ e)))))
       | no r ↦ rw ne_eqb (old {l = shift x y l} (omega (arith, line_shift b x y l n)))
     ])
-behind_shift b x c R q n i (more {y = y} {l = l} h f) =
-    more {l = cond (eqb y x) l (shift x y l)} i (elim (ℕ_discrete y x) [ yes p ↦ rw eq-eqb f | no r ↦ rw ne_eqb (behind_shift b x y R q n h f) ])
+behind_shift b x R q c n i (more {y = y} {l = l} h f) =
+    more {l = cond (eqb y x) l (shift x y l)} i (elim (ℕ_discrete y x) [ yes p ↦ rw eq-eqb f | no r ↦ rw ne_eqb (behind_shift b x R q y n h f) ])
 
 -- how many of R's blocks lead
 record Led (b : ℕ) (R : List ℕ) (q : ℕ) (l : List ℕ) : Type 0 where
@@ -77,7 +77,7 @@ module _ {b n q : ℕ} where
   recent_wider R' i f e r = record { few = f; real = e; behind = behind_wider R' i r.behind }
 
   pub recent_lru : (x : ℕ) (R l : List ℕ) → x ≢ b → 1 ≤ cnt x R → Recent b n q R l → Recent b n q R (lru x l)
-  recent_lru x R l u i r = record { few = r.few; real = r.real; behind = behind_shift b x x R q u i r.behind }
+  recent_lru x R l u i r = record { few = r.few; real = r.real; behind = behind_shift b x R q x u i r.behind }
 
   pub recent_fifo : (x : ℕ) (R l : List ℕ) → x ≢ b → 1 ≤ cnt x R → Recent b n q R l → Recent b n q R (fifo x l)
   recent_fifo x R l u i r =

@@ -1,0 +1,21 @@
+-- `layout::facts::same_row`: where the halves are equal as numbers, so are the words packed into them.
+use Prim.Native.Nat.{◌+◌}
+use native.Mathlib.Omega.{arith}
+use mathlib.Core.Path.{sym, ◌∙◌}
+use borrow.Author.Rules.{rules}
+use borrow.Author.Tests.{eqb-true}
+use Rattle.paper.specs.Files.{u16At}
+use Rattle.paper.proofs.Says.{both}
+use Rattle.layout.proofs.Pack.{same_rows}
+use Rattle.layout.proofs.facts.same_row.Goals as goal
+
+pub returns : goal.returns
+unfolding u16At
+returns c t =
+    let b = c.before.before in
+    let a = b.before in
+    let known = a.shared_slice_known-1.given in
+    let e = both _ _ t in
+    same_rows a.args.file.now (λ p. omega (arith, known p, known (p + 1))) _ _
+    (sym a.four_at.ensures ∙ eqb-true _ _ e.0 ∙ b.four_at-2.ensures)
+    (sym c.four_at-3.ensures ∙ eqb-true _ _ e.1 ∙ c.four_at-4.ensures)
