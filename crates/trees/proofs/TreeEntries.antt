@@ -8,7 +8,7 @@ use mathlib.Core.Bool.{Bool, true, false, cond}
 use lib.Bits.{bit_or, bit_and}
 use lib.Count.{count_trailing_zeros}
 use lib.ListN.{get_or, take, set}
-use lib.Pow.{pow-lt, pow_mono, pow_pos}
+use lib.Pow.{pow_mono, pow_pos}
 use borrow.Author.Tests.{lt-ltb, le-ltb}
 use Rattle.paper.specs.declared.SetState.{SetState}
 use Rattle.paper.specs.declared.Line.{Line}

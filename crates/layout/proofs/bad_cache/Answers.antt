@@ -1,7 +1,6 @@
 -- The paper's one test of policy, ways and sets.
 use mathlib.Core.Path.{ap}
 use mathlib.Core.Bool.{not}
-use borrow.Author.Rules.{rules}
 use Rattle.paper.specs.Files.{bad_cache}
 use Rattle.layout.proofs.bad_cache.Goals as goal
 

@@ -1,7 +1,6 @@
 -- The letters are wrong where the first wrong one is found before the fourth.
 use Rattle.paper.specs.Files.{bad_letters}
 use Rattle.paper.specs.Lists.{some}
-use borrow.Author.Rules.{rules}
 use Rattle.layout.proofs.bad_letters.Goals as goal
 
 pub returns : goal.returns

@@ -1,5 +1,4 @@
 -- The test is the definition, with the ceilings by their names.
-use borrow.Author.Rules.{rules}
 use Rattle.paper.specs.Files.{bad_numbers}
 use Rattle.layout.proofs.bad_numbers.Goals as goal
 

@@ -1,6 +1,5 @@
 -- Each offset beside where the section begins; the test is the definition.
 use Rattle.paper.specs.Files.{bad_offsets}
-use borrow.Author.Rules.{rules}
 use Rattle.layout.proofs.bad_offsets.Goals as goal
 
 pub returns : goal.returns

@@ -1,5 +1,4 @@
 -- `layout_of` answers as `layout_of`: at each return, the rules that were kept and the one that was broken.
-use borrow.Author.Rules.{rules}
 use Rattle.paper.specs.Verdicts.{layout_rules}
 use Rattle.paper.proofs.RuleLaws.{passes, stops, passes_lt, stops_lt}
 use Rattle.layout.specs.Layouts.{layout_of}

@@ -1,6 +1,5 @@
 -- Field by field, each where Records puts it.
 use Rattle.paper.specs.Files.{trailer_of}
-use borrow.Author.Rules.{rules}
 use Rattle.layout.proofs.trailer_of.Goals as goal
 
 pub returns : goal.returns

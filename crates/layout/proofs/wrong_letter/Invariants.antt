@@ -1,11 +1,8 @@
 -- The loop stops at the first wrong letter; before it all were right (`Passed`).
 use Prim.Native.Nat.{◌-◌}
-use mathlib.Core.Path.{◌≡◌, refl}
-use mathlib.Core.Bool.{true, false}
-use borrow.Author.Tests.{eq-eqb, ne_eqb}
-use borrow.Author.Rules.{rules}
+use mathlib.Core.Path.{◌≡◌}
 use Rattle.paper.specs.Files.{end_at, bad_letter}
-use Rattle.paper.proofs.Least.{Passed, passed_start, passed_more, least_found, least_end}
+use Rattle.paper.proofs.Least.{Passed}
 use Rattle.layout.proofs.wrong_letter.Given as goal
 
 abbrev pub invariant-loop-i : goal.invariant-loop-i

@@ -1,7 +1,6 @@
 -- `trees::step`: a hit turns the bits from its line, and a miss has them from its entry; the block stands in its line or comes there.
 use native.Mathlib.Omega.{arith}
 use mathlib.Core.Path.{refl, ◌∙◌}
-use borrow.Author.Rules.{rules}
 use Rattle.paper.specs.Policies.{tree_policy}
 use Rattle.paper.specs.Trees.{tree_victim}
 use Rattle.paper.proofs.MoveLaws.{legal_ready, tree_bits}

@@ -1,6 +1,5 @@
 -- `trees::step_alone`: the constants are the tables, as in `misses`, `ones` and `zeros`.
 use mathlib.Core.Path.{refl}
-use borrow.Author.Rules.{rules}
 use Rattle.paper.specs.Lists.{table, least, least_from}
 use Rattle.paper.specs.Steps.{bit_at}
 use Rattle.paper.specs.Trees.{levels, pointed, led_to, tree_victim, with_bit, turned_from, turned_above, turned, parent}

@@ -7,7 +7,6 @@ use mathlib.Core.List.{List}
 use lib.Bits.{bit_or, bit_and}
 use lib.Count.{count_trailing_zeros}
 use lib.ListN.{get_or}
-use borrow.Author.Rules.{rules}
 use Rattle.paper.specs.Machines.{offered}
 use Rattle.paper.specs.Policies.{tree_policy}
 use Rattle.paper.specs.Shifts.{Bit}

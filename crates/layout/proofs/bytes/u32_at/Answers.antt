@@ -1,5 +1,4 @@
 -- Two 16-bit numbers, the low one first, as the definition reads them.
-use borrow.Author.Rules.{rules}
 use Rattle.paper.specs.Files.{u32_at}
 use Rattle.layout.proofs.bytes.u32_at.Goals as goal
 

@@ -1,6 +1,5 @@
 -- `layout::facts::four_at`: each number is multiplied past those before it.
 use native.Mathlib.Omega.{arith}
-use borrow.Author.Rules.{rules}
 use Rattle.layout.proofs.Pack.{packed_four}
 use Rattle.layout.proofs.facts.four_at.Goals as goal
 

@@ -2,7 +2,6 @@
 use Prim.Native.Nat.{ℕ, ◌*◌, ◌≤◌}
 use native.Mathlib.Omega.{arith}
 use native.Mathlib.Nat.{mul-le-mul}
-use borrow.Author.Rules.{rules}
 use Rattle.layout.proofs.places.loop_place.Goals as goal
 
 product : (s j : ℕ) → s ≤ 12 → j ≤ 65535 → s * j ≤ 786420

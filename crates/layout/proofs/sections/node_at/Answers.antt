@@ -1,6 +1,5 @@
 -- A laid-out file has the node's bytes, and they stand where the definition reads them.
 use Rattle.paper.specs.Files.{node_at}
-use borrow.Author.Rules.{rules}
 use Rattle.layout.proofs.sections.node_at.Goals as goal
 
 pub returns : goal.returns

@@ -1,5 +1,4 @@
 -- 65,535 is the whole graph; any other number is that loop.
-use borrow.Author.Rules.{rules}
 use mathlib.Core.Path.{refl}
 use borrow.Author.Tests.{eq-eqb, ne_eqb}
 use Rattle.paper.specs.Cases.{range_of}

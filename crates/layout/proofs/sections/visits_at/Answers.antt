@@ -1,7 +1,6 @@
 -- Version 1 has no W; in version 2 a laid-out file has its bytes, since loop after loop ends before the facts begin.
 use native.Mathlib.Omega.{arith}
 use mathlib.Core.Path.{sym, ◌∙◌}
-use borrow.Author.Rules.{rules}
 use Rattle.paper.specs.Files.{loop_at}
 use Rattle.paper.proofs.LoopSizes.{visits_without, visits_with}
 use Rattle.layout.proofs.LoopPlaces.{all_in}

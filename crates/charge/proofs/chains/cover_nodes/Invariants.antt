@@ -1,0 +1,17 @@
+-- The chain has every node of b's bucket from the last to the first, so what it passes over does not fetch b.
+use Prim.Native.Nat.{◌-◌, ◌%◌, ◌<◌}
+use native.Mathlib.Omega.{arith}
+use mathlib.Core.Path.{refl, ◌∙◌}
+use borrow.Author.Rules.{rules}
+use Rattle.paper.specs.Files.{case_of}
+use Rattle.charge.specs.Chained.{bucket}
+use Rattle.charge.specs.Sizes as Sizes
+use Rattle.charge.proofs.Buckets.{chain_low}
+use Rattle.charge.proofs.Following.{Following, following_start, following_more, following_end}
+use Rattle.charge.proofs.chains.cover_nodes.Given as goal
+
+abbrev pub invariant-loop-c : goal.invariant-loop-c
+invariant-loop-c l = Following (case_of l.file l.trailer) l.h.range l.h.block l.h.limit l.initial.cover l.cover l.n l.c
+
+abbrev pub decreases-loop-c : goal.decreases-loop-c
+decreases-loop-c l = l.c

@@ -1,0 +1,19 @@
+-- The lesser of the two, whichever branch gave the limit. Where it is below the old one, a byte, it is a byte too.
+use native.Mathlib.Omega.{arith}
+use mathlib.Core.Path.{◌≡◌}
+use mathlib.Core.Logic.{⊎_elim}
+use mathlib.Core.Bool.{cond}
+use Rattle.charge.specs.Sizes as Sizes
+use Rattle.charge.proofs.chains.lower_if.Goals as goal
+
+limit : (c : goal.Joined-hit) → c.if-hit.x ≡ cond c.args.hit c.args.l Sizes.no_limit
+limit c = ⊎_elim (λ w. rw w.0.true w.1) (λ w. rw w.0.false w.1) c.if-hit.branch
+
+pub overflow_cast-result : goal.overflow_cast-result
+overflow_cast-result c = omega (arith, c.if-x-old.true, c.ranges.old.fits)
+
+pub returns-then-x-old : goal.returns-then-x-old
+returns-then-x-old c = omega (arith, limit c.before.before, c.if-x-old.true)
+
+pub returns-else-x-old : goal.returns-else-x-old
+returns-else-x-old c = omega (arith, limit c.before)

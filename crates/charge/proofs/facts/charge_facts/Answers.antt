@@ -1,0 +1,35 @@
+-- The tables begin empty, are filled for all loops and all nodes, and are lent to the pass over the facts.
+use borrow.Author.Rules.{rules}
+use Rattle.charge.proofs.Buckets.{chained_start}
+use Rattle.charge.proofs.LoopsOut.{outers_start}
+use Rattle.charge.proofs.facts.charge_facts.Goals as goal
+
+-- where the first table is lent
+abbrev start : goal.After-outers-1 → goal.Start
+start c = c.before.before.before.before
+
+-- where both are filled
+abbrev filled : goal.After-charge_each-arg-4-1 → goal.After-outers-2-1
+filled c = c.before.before.before.before.before
+
+pub charge_each-requires : goal.charge_each-requires
+charge_each-requires c =
+    let n = (filled c).before in
+    let l = n.before.before in
+    record { ready = (start l.before).requires.ready; outers = l.chain_loops.ensures; chained = n.chain_nodes.ensures; covered = (start l.before).requires.covered; facts_added = (start l.before).requires.facts_added; part = (start l.before).requires.part }
+
+pub chain_loops-requires : goal.chain_loops-requires
+chain_loops-requires c =
+    let r = (start c).requires.ready in
+    record { laid = r.laid; sound_graph = r.sound.graph; outers = outers_start _ }
+
+pub chain_nodes-requires : goal.chain_nodes-requires
+chain_nodes-requires c =
+    record { laid = (start c.before.before).requires.ready.laid; chained = chained_start _ }
+
+pub shape_of-numbers : goal.shape_of-numbers
+shape_of-numbers c = c.charge_each.ensures.part_2.room
+
+pub returns : goal.returns
+returns c =
+    record { covered_2 = c.charge_each.ensures.covered_2; facts_added_2 = c.charge_each.ensures.facts_added_2; part_2 = c.charge_each.ensures.part_2 }

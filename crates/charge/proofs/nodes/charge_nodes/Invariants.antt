@@ -1,0 +1,15 @@
+-- A node is added with the least limit that covers it, and with 0 where it fetches nothing.
+use Prim.Native.Nat.{◌-◌, ◌<◌}
+use native.Mathlib.Omega.{arith}
+use borrow.Author.Rules.{rules}
+use Rattle.paper.specs.Files.{case_of}
+use Rattle.charge.specs.Sizes as Sizes
+use Rattle.charge.proofs.Cover.{covered_limits}
+use Rattle.charge.proofs.Walking.{Walking, walking_open, walking_more, walking_end}
+use Rattle.charge.proofs.nodes.charge_nodes.Given as goal
+
+abbrev pub invariant-loop-v : goal.invariant-loop-v
+invariant-loop-v l = Walking l.file l.trailer l.v l.fetched l.spent
+
+abbrev pub decreases-loop-v : goal.decreases-loop-v
+decreases-loop-v l = l.n - l.v

@@ -1,0 +1,43 @@
+-- `evidence::rows::bad_blocks`: the first slot that fails stops the loop; before it none did, and `low` is the least that the next may be.
+use Prim.Native.Nat.{◌-◌}
+use mathlib.Core.Path.{◌≡◌}
+use native.Mathlib.Omega.{arith}
+use borrow.Author.Rules.{rules}
+use lib.Dec.{eqb}
+use borrow.Author.Tests.{eqb-false}
+use Rattle.paper.specs.Files.{row_at, case_of}
+use Rattle.paper.specs.Facts.{bad_slot}
+use Rattle.paper.proofs.Least.{Passed, passed_start, passed_more, some_found, some_end}
+use Rattle.evidence.specs.Stands.{fact_of}
+use Rattle.paper.proofs.Says.{neither}
+use Rattle.evidence.proofs.Slots.{lowest, lowest_start, lowest_more, set_held, block_test}
+use Rattle.evidence.proofs.rows.bad_blocks.Goals as goal
+
+pub returns-then-x-h : goal.returns-then-x-h
+returns-then-x-h c =
+    let a = c.before.before.before in
+    let i = a.args in
+    some_found _ _ _ a.loop-i.invariant.0 _ a.loop-i-test.true
+    (block_test i.file.now i.trailer i.h _ _ _ a.slot_at-x.ensures _ _ _ a.requires.stands (set_held a.requires.set_at) a.loop-i-test.true a.loop-i.invariant.1 c.elsewhere.ensures)
+    c.if-x-h.true
+
+pub overflow_add-low : goal.overflow_add-low
+overflow_add-low c =
+    let x = c.slot_at-x.result in
+    omega (arith, eqb-false x 65535 (neither (eqb x 65535) _ c.if-x-h.false).0)
+
+pub loop-i-preserved : goal.loop-i-preserved
+loop-i-preserved c =
+    let a = c.before.before.before in
+    let i = a.args in (
+      passed_more _ _ _ _ a.loop-i.invariant.0 a.loop-i-test.true
+          (block_test i.file.now i.trailer i.h _ _ _ a.slot_at-x.ensures _ _ _ a.requires.stands (set_held a.requires.set_at) a.loop-i-test.true a.loop-i.invariant.1 c.elsewhere.ensures)
+          c.if-x-h.false,
+      lowest_more _ _ _ a.slot_at-x.ensures,
+    )
+
+pub returns : goal.returns
+returns c = some_end _ _ _ c.loop-i.invariant.0 c.loop-i-test.false
+
+pub loop-i-init : goal.loop-i-init
+loop-i-init c = (passed_start _ _, lowest_start _)

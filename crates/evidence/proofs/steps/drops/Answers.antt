@@ -1,0 +1,38 @@
+-- Both rows rise, so what has been passed over in s can stand no more in what is left of r (`Merged`).
+use Prim.Native.Nat.{◌-◌}
+use mathlib.Core.Logic.{⊎_elim}
+use native.Mathlib.Omega.{arith}
+use borrow.Author.Rules.{rules}
+use Rattle.paper.specs.Files.{row_at}
+use Rattle.evidence.proofs.Slots.{set_held}
+use Rattle.evidence.proofs.Sets.{Merged, merged_start, merged_at, merged_out, merged_above, merged_skip, merged_same, merged_end}
+use Rattle.evidence.proofs.steps.drops.Goals as goal
+
+pub returns-then-m-j : goal.returns-then-m-j
+returns-then-m-j c =
+    let p = c.requires.rising_at_2 in
+    merged_out _ _ _ _ (set_held p.set) _ _ c.loop-i.invariant c.loop-i-test.true c.if-m-j.true
+
+pub returns-then-x-y : goal.returns-then-x-y
+returns-then-x-y c =
+    let a = c.before.before.before in
+    let p = a.requires.rising_at_2 in
+    merged_above _ _ _ _ (set_held p.set) _ _ a.loop-i.invariant a.loop-i-test.true
+    a.if-m-j.false _ _ c.slot_at-x.ensures c.slot_at-y.ensures p.rises c.if-x-y.true
+
+pub loop-i-preserved : goal.loop-i-preserved
+loop-i-preserved c =
+    let a = c.before.before.before.before in
+    let e = set_held a.requires.rising_at_2.set in
+    ⊎_elim
+    (λ w. merged_at _ _ _ _ _ _ _ w.1
+    (merged_same _ _ _ _ e _ _ a.loop-i.invariant a.loop-i-test.true a.if-m-j.false _ _ c.slot_at-x.ensures c.slot_at-y.ensures a.requires.rising_at.rises w.0.true))
+    (λ w. merged_at _ _ _ _ _ _ _ w.1
+    (merged_skip _ _ _ _ e _ _ a.loop-i.invariant a.loop-i-test.true a.if-m-j.false _ _ c.slot_at-x.ensures c.slot_at-y.ensures (λ z. absurd (omega arith)) w.0.false))
+    c.if-x-y-2.branch
+
+pub returns : goal.returns
+returns c = merged_end _ _ _ _ _ _ c.loop-i.invariant c.loop-i-test.false
+
+pub loop-i-init : goal.loop-i-init
+loop-i-init c = merged_start _ _ _ _

@@ -1,0 +1,15 @@
+-- The loop stops at a node that fetches b; where it ends, none did (`Passed`).
+use Prim.Native.Nat.{◌-◌}
+use borrow.Author.Rules.{rules}
+use Rattle.paper.specs.Cases.{fetches}
+use Rattle.paper.specs.Files.{case_of}
+use Rattle.paper.proofs.Least.{Passed, passed_start, passed_more, some_found, some_end}
+use Rattle.evidence.specs.Stands.{fact_of}
+use Rattle.evidence.proofs.Scopes.{unfetched_is}
+use Rattle.evidence.proofs.unfetched.Given as goal
+
+abbrev pub invariant-loop-j : goal.invariant-loop-j
+invariant-loop-j l = Passed (fetches (case_of l.file l.trailer) (fact_of l.file l.h)) l.n l.j
+
+abbrev pub decreases-loop-j : goal.decreases-loop-j
+decreases-loop-j l = l.n - l.j

@@ -1,0 +1,32 @@
+-- The lines looked at stand nowhere after themselves (`distinct_on`); one that does ends the look.
+use Prim.Native.Nat.{◌-◌, ◌≤◌, ◌<◌}
+use native.Mathlib.Omega.{arith}
+use native.Mathlib.Numerals.{add-one}
+use mathlib.Core.Path.{◌≡◌, refl, sym, ◌∙◌}
+use mathlib.Core.Logic.{⊎_elim}
+use lib.ListN.{length, drop}
+use borrow.Author.Rules.{rules}
+use Rattle.paper.specs.Machines.{distinct}
+use Rattle.machine.proofs.Search.{distinct_empty, distinct_on, distinct_not, distinct_end}
+use Rattle.machine.proofs.legality.is_distinct.Goals as goal
+
+pub returns-then-stands_from : goal.returns-then-stands_from
+returns-then-stands_from c =
+    let v = c.before.before.before.before in
+    sym (v.loop-i.invariant.1 ∙ distinct_not v.args.lines v.loop-i.i (omega arith) c.if-b.true (rw add-one at (sym c.Stands-from.ensures ∙ c.if-stands_from.true)))
+
+pub loop-i-preserved : goal.loop-i-preserved
+loop-i-preserved c =
+    let l = c.args.lines in
+    let i = c.loop-i.i in
+    let h : i < length l = omega arith in (
+      omega arith,
+      c.loop-i.invariant.1
+          ∙ rw add-one (⊎_elim (λ w. distinct_on l i h w.0.true (rw add-one at (sym w.1.ensures ∙ w.2.false))) (λ w. distinct_empty l i h w.false) c.if-b.branch),
+    )
+
+pub returns : goal.returns
+returns c = sym (c.loop-i.invariant.1 ∙ distinct_end c.args.lines c.loop-i.i (omega arith))
+
+pub loop-i-init : goal.loop-i-init
+loop-i-init c = (search rules, refl)

@@ -1,0 +1,16 @@
+-- The lines looked at do not hold the block (`stands_on`); one that does ends the look.
+use Prim.Native.Nat.{◌-◌, ◌≤◌}
+use native.Mathlib.Omega.{arith}
+use native.Mathlib.Numerals.{add-one}
+use mathlib.Core.Path.{◌≡◌, refl, sym, ◌∙◌}
+use lib.ListN.{drop}
+use borrow.Author.Rules.{rules}
+use Rattle.paper.specs.Machines.{stands}
+use Rattle.machine.proofs.Search.{stands_here, stands_on, stands_end}
+use Rattle.machine.proofs.legality.stands_from.Given as goal
+
+abbrev pub invariant-loop-i : goal.invariant-loop-i
+invariant-loop-i l = (l.i ≤ 8) × (stands (drop l.from l.lines) l.b ≡ stands (drop l.i l.lines) l.b)
+
+abbrev pub decreases-loop-i : goal.decreases-loop-i
+decreases-loop-i l = 8 - l.i

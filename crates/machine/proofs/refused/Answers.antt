@@ -1,0 +1,6 @@
+-- The state goes back as it came, with the refusal.
+use borrow.Author.Rules.{rules}
+use Rattle.machine.proofs.refused.Goals as goal
+
+pub returns : goal.returns
+returns c = rw c.refuse-why.ensures

@@ -1,0 +1,90 @@
+-- `runs::fifo_run`: an access keeps what holds of a run; a hit changes nothing, so only a miss is stored.
+use Prim.Native.Nat.{◌-◌, ◌<◌}
+use native.Mathlib.Omega.{arith}
+use mathlib.Core.Path.{◌≡◌, refl, sym, ap, ◌∙◌}
+use mathlib.Core.Logic.{⊎_elim}
+use lib.ListN.{length, get_or}
+use borrow.Author.Rules.{rules}
+use borrow.Author.Tests.{not-false}
+use Rattle.paper.specs.declared.SetState.{SetState}
+use Rattle.paper.specs.Machines.{step}
+use Rattle.paper.specs.Policies.{fifo_policy}
+use Rattle.runs.specs.TraceRuns.{held, no_lines}
+use Rattle.runs.proofs.Going.{Going, Access, few_ways, sets_ready, access_is, going_start, going_more, going_end, set_ready, no_none}
+use Rattle.runs.proofs.Held.{Stored, stored, unchanged, held_at, held_empty, fifo_same}
+use Rattle.runs.proofs.fifo_run.Goals as goal
+
+-- before the loop: where the number of sets is known, and where the run begins
+abbrev counted : goal.At-loop-i → goal.After-sets_of-all
+counted o = o.before.before
+
+abbrev start : goal.At-loop-i → goal.Start
+start o = (counted o).before.before.before
+
+-- where the access began
+abbrev begun : goal.After-home_in-at → goal.At-loop-i
+begun c = c.before.before.before
+
+pub home_in-at-requires : goal.home_in-at-requires
+home_in-at-requires c =
+    let o = c.before.before in
+    sets_ready (start o).requires _ (counted o).sets_of-all.ensures
+
+-- the set of the access
+home :
+    (c : goal.After-home_in-at) →
+    let o = begun c in
+    Access (start o).args.sets (start o).args.blocks.now o.loop-i.i c.home_in-at.result
+home c =
+    let o = begun c in
+    access_is (start o).requires _ (counted o).sets_of-all.ensures (omega arith) c.home_in-at.ensures.value c.home_in-at.ensures.upper_bound
+
+-- and its state, as the array has it
+state : (c : goal.After-home_in-at) → held (begun c).loop-i.states c.home_in-at.result ≡ get_or (begun c).loop-i.states c.home_in-at.result no_lines
+state c = held_at _ _ (omega (arith, (begun c).loop-i.invariant.1, c.home_in-at.ensures.upper_bound))
+
+pub fifo-t-requires : goal.fifo-t-requires
+fifo-t-requires c =
+    let o = begun c.before in
+    let p = (start o).requires in
+    record { ready = set_ready p o.loop-i.invariant.0 _ _ (state c.before); block_nonzero = no_none p (home c.before).within; beyond_value = o.kept_from-beyond.ensures }
+
+-- where the set became known
+abbrev settled : goal.Joined-not-t → goal.After-home_in-at
+settled c = c.before.before.before.before
+
+-- only a miss is stored
+kept : (c : goal.Joined-not-t) → Stored (begun (settled c)).loop-i.states (settled c).home_in-at.result c.fifo-t.result.state c.if-not-t.states
+kept c =
+    let t = c.fifo-t in
+    let low : (settled c).home_in-at.result < length (begun (settled c)).loop-i.states = omega (arith, (begun (settled c)).loop-i.invariant.1, (settled c).home_in-at.ensures.upper_bound) in
+    ⊎_elim
+    (λ w. stored _ _ _ _ low w.2)
+    (λ w. unchanged _ _ _ _ low w.1 (fifo_same _ _ _ _ t.ensures (not-false _ w.0.false)))
+    c.if-not-t.branch
+
+pub loop-i-preserved : goal.loop-i-preserved
+unfolding step
+loop-i-preserved c =
+    let d = settled c.before in
+    let o = begun d in
+    let t = c.fifo-t in
+    let m = c.mark_of-m in
+    let k = kept c.before in
+    let b = get_or (start o).args.blocks.now o.loop-i.i 0 in (
+      going_more (start o).requires o.loop-i.invariant.0 (home d) t.result (t.ensures ∙ ap (λ (s : SetState). step fifo_policy (start o).args.k s b) (sym (state d)))
+          (held c.if-not-t.states) k.here k.there _ m.ensures.value m.ensures.upper_bound,
+      k.long ∙ o.loop-i.invariant.1,
+    )
+
+pub kept_from-beyond-requires : goal.kept_from-beyond-requires
+kept_from-beyond-requires c = few_ways c.requires
+
+pub loop-i-init : goal.loop-i-init
+loop-i-init c = (going_start c.requires _ (λ q. held_empty 64 q), refl)
+
+pub shape_of-marks : goal.shape_of-marks
+shape_of-marks c = c.loop-i.invariant.0.same
+
+pub returns : goal.returns
+returns c = going_end (start c.before).requires c.loop-i.invariant.0 (omega arith)
