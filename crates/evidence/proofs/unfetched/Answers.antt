@@ -10,8 +10,7 @@ use Rattle.evidence.proofs.unfetched.Goals as goal
 
 pub returns-then-fetches : goal.returns-then-fetches
 returns-then-fetches c =
-    let n = c.before.before.before.before in
-    unfetched_is _ _ _ n.requires.stands _ _ n.nodes_of-n.ensures.value
+    unfetched_is _ _ _ c.requires.stands _ _ c.nodes_of-n.ensures.value
     (some_found _ _ _ c.loop-j.invariant _ c.loop-j-test.true c.fetches.ensures c.if-fetches.true)
 
 pub loop-j-preserved : goal.loop-j-preserved

@@ -19,7 +19,7 @@ unfolding block_answer
 returns-then-not-is_line_size c = rw (← c.is_line_size.ensures, c.if-not-is_line_size.true, ← c.refuse.ensures)
 
 pub nonzero_div-q : goal.nonzero_div-q
-nonzero_div-q c = size_low _ (sym c.is_line_size.ensures ∙ not-false _ c.if-not-is_line_size.false)
+nonzero_div-q c = size_low _ (sym c.is_line_size.ensures ∙ c.if-not-is_line_size.false)
 
 pub returns-then-q-gt65534 : goal.returns-then-q-gt65534
 unfolding block_answer

@@ -14,16 +14,13 @@ returns-then-not-is_set_count c = rw (← c.is_set_count.ensures, c.if-not-is_se
 pub returns-then-block-eq65535 : goal.returns-then-block-eq65535
 unfolding set_answer
 returns-then-block-eq65535 c =
-    let n = c.before.before.before in
-    rw (← n.is_set_count.ensures, n.if-not-is_set_count.false, eq-eqb _ _ c.if-block-eq65535.true, ← c.refuse-then-block-eq65535.ensures)
+    rw (← c.is_set_count.ensures, c.if-not-is_set_count.false, eq-eqb _ _ c.if-block-eq65535.true, ← c.refuse-then-block-eq65535.ensures)
 
 pub home-q-requires : goal.home-q-requires
 home-q-requires c =
-    let n = c.before.before in
-    says_true (says_sets _) (sym n.is_set_count.ensures ∙ not-false _ n.if-not-is_set_count.false)
+    says_true (says_sets _) (sym c.is_set_count.ensures ∙ c.if-not-is_set_count.false)
 
 pub returns : goal.returns
 unfolding set_answer
 returns c =
-    let n = c.before.before.before in
-    rw (← n.is_set_count.ensures, n.if-not-is_set_count.false, ne_eqb _ _ c.if-block-eq65535.false, ← c.home-q.ensures.value)
+    rw (← c.is_set_count.ensures, c.if-not-is_set_count.false, ne_eqb _ _ c.if-block-eq65535.false, ← c.home-q.ensures.value)

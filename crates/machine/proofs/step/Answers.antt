@@ -10,32 +10,28 @@ use Rattle.machine.proofs.step.Goals as goal
 pub returns-then-not-is_offered : goal.returns-then-not-is_offered
 returns-then-not-is_offered c =
     c.refused.ensures
-    ∙ sym (step_3 _ _ _ _ (sym c.is_offered.ensures ∙ not-true _ c.if-not-is_offered.true))
+    ∙ sym (step_3 _ _ _ _ (sym c.is_offered.ensures ∙ c.if-not-is_offered.true))
 
 pub is_legal-requires : goal.is_legal-requires
-is_legal-requires c = (says_true (says_offered _ _) (sym c.is_offered.ensures ∙ not-false _ c.if-not-is_offered.false)).most
+is_legal-requires c = (says_true (says_offered _ _) (sym c.is_offered.ensures ∙ c.if-not-is_offered.false)).most
 
 pub returns-then-not-is_legal : goal.returns-then-not-is_legal
 returns-then-not-is_legal c =
-    let l = c.before.before in
-    let o = sym l.is_offered.ensures ∙ not-false _ l.if-not-is_offered.false in
-    c.refused-then-not-is_legal.ensures ∙ sym (step_22 _ _ _ _ o (sym l.is_legal.ensures ∙ not-true _ c.if-not-is_legal.true))
+    let o = sym c.is_offered.ensures ∙ c.if-not-is_offered.false in
+    c.refused-then-not-is_legal.ensures ∙ sym (step_22 _ _ _ _ o (sym c.is_legal.ensures ∙ c.if-not-is_legal.true))
 
 pub returns-then-b : goal.returns-then-b
 returns-then-b c =
-    let l = c.before.before.before in
-    let o = sym l.is_offered.ensures ∙ not-false _ l.if-not-is_offered.false in
-    c.refused-then-b.ensures ∙ sym (step_21 _ _ _ _ o (sym l.is_legal.ensures ∙ not-false _ c.if-not-is_legal.false) c.if-b.true)
+    let o = sym c.is_offered.ensures ∙ c.if-not-is_offered.false in
+    c.refused-then-b.ensures ∙ sym (step_21 _ _ _ _ o (sym c.is_legal.ensures ∙ c.if-not-is_legal.false) c.if-b.true)
 
 pub take_step-requires : goal.take_step-requires
 take_step-requires c =
-    let l = c.before.before in
-    let o = sym l.is_offered.ensures ∙ not-false _ l.if-not-is_offered.false in
-    record { k_value = o; state_value = sym l.is_legal.ensures ∙ not-false _ c.if-not-is_legal.false; block_nonzero = c.if-b.false }
+    let o = sym c.is_offered.ensures ∙ c.if-not-is_offered.false in
+    record { k_value = o; state_value = sym c.is_legal.ensures ∙ c.if-not-is_legal.false; block_nonzero = c.if-b.false }
 
 pub returns : goal.returns
 returns c =
-    let l = c.before.before.before.before in
-    let o = sym l.is_offered.ensures ∙ not-false _ l.if-not-is_offered.false in
+    let o = sym c.is_offered.ensures ∙ c.if-not-is_offered.false in
     c.took.ensures
-    ∙ rw c.take_step.ensures (sym (step_taken _ _ _ _ o (sym l.is_legal.ensures ∙ not-false _ c.if-not-is_legal.false) c.if-b.false))
+    ∙ rw c.take_step.ensures (sym (step_taken _ _ _ _ o (sym c.is_legal.ensures ∙ c.if-not-is_legal.false) c.if-b.false))

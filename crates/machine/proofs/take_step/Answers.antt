@@ -23,13 +23,12 @@ shift_of-requires c = (says_true (says_offered _ _) c.requires.k_value).most
 
 pub shift-shift-requires : goal.shift-shift-requires
 shift-shift-requires c =
-    let e = c.Shift-of.ensures in
+    let e = c.shift_of.ensures in
     e ∙ ap (shift_at c.args.k) (sym (ap (λ (t : Shift). t.weight) e))
 
 pub lru-requires : goal.lru-requires
 lru-requires c =
-    let s = c.before.before.before in
-    record { ready = legal_ready _ _ _ s.requires.state_value (says_true (says_offered _ _) s.requires.k_value); block_nonzero = s.requires.block_nonzero; shift_value = c.shift-shift.ensures }
+    record { ready = legal_ready _ _ _ c.requires.state_value (says_true (says_offered _ _) c.requires.k_value); block_nonzero = c.requires.block_nonzero; shift_value = c.shift-shift.ensures }
 
 pub returns-then-policy-eq-LRU : goal.returns-then-policy-eq-LRU
 unfolding step
@@ -40,8 +39,7 @@ kept_from-requires c = (says_true (says_offered _ _) c.requires.k_value).most
 
 pub fifo-requires : goal.fifo-requires
 fifo-requires c =
-    let s = c.before.before.before in
-    record { ready = legal_ready _ _ _ s.requires.state_value (says_true (says_offered _ _) s.requires.k_value); block_nonzero = s.requires.block_nonzero; beyond_value = c.kept_from.ensures }
+    record { ready = legal_ready _ _ _ c.requires.state_value (says_true (says_offered _ _) c.requires.k_value); block_nonzero = c.requires.block_nonzero; beyond_value = c.kept_from.ensures }
 
 pub returns-then-policy-eq-FIFO : goal.returns-then-policy-eq-FIFO
 unfolding step
@@ -49,22 +47,19 @@ returns-then-policy-eq-FIFO c = c.fifo.ensures ∙ sym (rw (step, ne_eqb _ _ c.i
 
 pub step_alone-requires : goal.step_alone-requires
 step_alone-requires c =
-    let s = c.before.before.before in
-    let e : s.args.policy ≡ tree_policy = omega (arith, c.if-policy-eq-TREE.true) in
+    let e : c.args.policy ≡ tree_policy = omega (arith, c.if-policy-eq-TREE.true) in
     record { k_value = subst (λ (p : ℕ). offered p s.args.k ≡ true) e s.requires.k_value; state_value = subst (λ (p : ℕ). legal p s.args.k s.args.state ≡ true) e s.requires.state_value; block_nonzero = s.requires.block_nonzero }
 
 pub returns-then-policy-eq-TREE : goal.returns-then-policy-eq-TREE
 unfolding step
 returns-then-policy-eq-TREE c =
-    let d = c.before.before in
-    let n : d.args.policy ≢ nmru_policy = omega (arith, c.if-policy-eq-TREE.true) in
-    c.step_alone.ensures ∙ sym (rw (step, ne_eqb _ _ d.if-policy-eq-LRU.false, ne_eqb _ _ d.if-policy-eq-FIFO.false, ne_eqb _ _ n))
+    let n : c.args.policy ≢ nmru_policy = omega (arith, c.if-policy-eq-TREE.true) in
+    c.step_alone.ensures ∙ sym (rw (step, ne_eqb _ _ c.if-policy-eq-LRU.false, ne_eqb _ _ c.if-policy-eq-FIFO.false, ne_eqb _ _ n))
 
 pub line-line-requires : goal.line-line-requires
 line-line-requires c =
-    let s = c.before.before.before in
-    let o = says_true (says_offered _ _) s.requires.k_value in
-    record { ready = legal_ready _ _ _ s.requires.state_value o; block_nonzero = s.requires.block_nonzero; bits_bound = nmru_bits _ _ _ s.requires.state_value (omega (arith, o.known)) }
+    let o = says_true (says_offered _ _) c.requires.k_value in
+    record { ready = legal_ready _ _ _ c.requires.state_value o; block_nonzero = c.requires.block_nonzero; bits_bound = nmru_bits _ _ _ c.requires.state_value (omega (arith, o.known)) }
 
 -- what the step of eight ways asks, for as many ways as there are
 abbrev Asked : SetState → ℕ → Line → ℕ → Type 0
@@ -72,37 +67,37 @@ Asked s b line k = Ready k s.lines × ((s.bits + 1 < 2 ^ k) × (line ≡ line_fo
 
 pub step_of_eight-requires : goal.step_of_eight-requires
 step_of_eight-requires c =
-    let l = c.before in
-    let s = l.before.before.before.before in
-    let o = says_true (says_offered _ _) s.requires.k_value in
-    let e : s.args.k ≡ 8 = omega (arith, c.if-k-eq8.true) in
+    let o = says_true (says_offered _ _) c.requires.k_value in
+    let e : c.args.k ≡ 8 = omega (arith, c.if-k-eq8.true) in
     subst
-    (Asked s.args.state s.args.block.0 l.line-line.result)
+    (Asked c.args.state c.args.block.0 c.line-line.result)
     e
-    (legal_ready _ _ _ s.requires.state_value o, (nmru_bits _ _ _ s.requires.state_value (omega (arith, o.known)), l.line-line.ensures))
+    (legal_ready _ _ _ c.requires.state_value o, (nmru_bits _ _ _ c.requires.state_value (omega (arith, o.known)), c.line-line.ensures))
 
 -- a policy that is none of the others is NMRU, and its step is NMRU's
-nmru-is : (c : goal.Else-policy-eq-TREE) → let a = c.args in nmru_step a.k a.state a.block.0 ≡ step a.policy a.k a.state a.block.0
+nmru-is : (c : goal.After-step_of_eight) → let a = c.args in nmru_step a.k a.state a.block.0 ≡ step a.policy a.k a.state a.block.0
 unfolding step
 nmru-is c =
-    let d = c.before in
-    let s = d.before.before in
-    let e : s.args.policy ≡ nmru_policy = omega (arith, c.if-policy-eq-TREE.false, d.if-policy-eq-FIFO.false, d.if-policy-eq-LRU.false, (says_true (says_offered _ _) s.requires.k_value).known) in
-    sym (rw (step, ne_eqb _ _ d.if-policy-eq-LRU.false, ne_eqb _ _ d.if-policy-eq-FIFO.false, eq-eqb _ _ e))
+    let e : c.args.policy ≡ nmru_policy = omega (arith, c.if-policy-eq-TREE.false, c.if-policy-eq-FIFO.false, c.if-policy-eq-LRU.false, (says_true (says_offered _ _) c.requires.k_value).known) in
+    sym (rw (step, ne_eqb _ _ c.if-policy-eq-LRU.false, ne_eqb _ _ c.if-policy-eq-FIFO.false, eq-eqb _ _ e))
+
+-- a policy that is none of the others is NMRU, and its step is NMRU's
+nmru-is_2 : (c : goal.After-nmru) → let a = c.args in nmru_step a.k a.state a.block.0 ≡ step a.policy a.k a.state a.block.0
+unfolding step
+nmru-is_2 c =
+    let e : c.args.policy ≡ nmru_policy = omega (arith, c.if-policy-eq-TREE.false, c.if-policy-eq-FIFO.false, c.if-policy-eq-LRU.false, (says_true (says_offered _ _) c.requires.k_value).known) in
+    sym (rw (step, ne_eqb _ _ c.if-policy-eq-LRU.false, ne_eqb _ _ c.if-policy-eq-FIFO.false, eq-eqb _ _ e))
 
 pub returns-then-k-eq8 : goal.returns-then-k-eq8
 returns-then-k-eq8 c =
-    let d = c.before.before.before in
-    let a = d.args in
+    let a = c.args in
     let e : 8 ≡ a.k = omega (arith, c.if-k-eq8.true) in
-    c.step_of_eight.ensures ∙ ap (λ (k : ℕ). nmru_step k a.state a.block.0) e ∙ nmru-is d
+    c.step_of_eight.ensures ∙ ap (λ (k : ℕ). nmru_step k a.state a.block.0) e ∙ nmru-is c
 
 pub nmru-requires : goal.nmru-requires
 nmru-requires c =
-    let l = c.before.before.before in
-    let s = l.before.before.before.before in
-    let o = says_true (says_offered _ _) s.requires.k_value in
-    record { ready = legal_ready _ _ _ s.requires.state_value o; bits_bound = nmru_bits _ _ _ s.requires.state_value (omega (arith, o.known)); line_value = l.line-line.ensures; next_value = c.next_bits-next.ensures }
+    let o = says_true (says_offered _ _) c.requires.k_value in
+    record { ready = legal_ready _ _ _ c.requires.state_value o; bits_bound = nmru_bits _ _ _ c.requires.state_value (omega (arith, o.known)); line_value = c.line-line.ensures; next_value = c.next_bits-next.ensures }
 
 pub returns : goal.returns
-returns c = c.nmru.ensures ∙ nmru-is c.before.before.before.before.before
+returns c = c.nmru.ensures ∙ nmru-is_2 c

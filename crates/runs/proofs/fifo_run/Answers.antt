@@ -14,50 +14,32 @@ use Rattle.runs.proofs.Going.{Going, Access, few_ways, sets_ready, access_is, go
 use Rattle.runs.proofs.Held.{Stored, stored, unchanged, held_at, held_empty, fifo_same}
 use Rattle.runs.proofs.fifo_run.Goals as goal
 
--- before the loop: where the number of sets is known, and where the run begins
-abbrev counted : goal.At-loop-i → goal.After-sets_of-all
-counted o = o.before.before
-
-abbrev start : goal.At-loop-i → goal.Start
-start o = (counted o).before.before.before
-
--- where the access began
-abbrev begun : goal.After-home_in-at → goal.At-loop-i
-begun c = c.before.before.before
-
 pub home_in-at-requires : goal.home_in-at-requires
 home_in-at-requires c =
-    let o = c.before.before in
-    sets_ready (start o).requires _ (counted o).sets_of-all.ensures
+    let r = sets_ready c.requires _ c.sets_of-all.ensures in
+    record { count_nonzero = r.0; sets_value = r.1 }
 
 -- the set of the access
 home :
-    (c : goal.After-home_in-at) →
-    let o = begun c in
-    Access (start o).args.sets (start o).args.blocks.now o.loop-i.i c.home_in-at.result
+    (c : goal.After-mark_of-m) →
+    Access c.args.sets c.args.blocks.now c.loop-i.i c.home_in-at.result
 home c =
-    let o = begun c in
-    access_is (start o).requires _ (counted o).sets_of-all.ensures (omega arith) c.home_in-at.ensures.value c.home_in-at.ensures.upper_bound
+    access_is c.requires _ c.sets_of-all.ensures (omega arith) c.home_in-at.ensures.value c.home_in-at.ensures.upper_bound
 
 -- and its state, as the array has it
-state : (c : goal.After-home_in-at) → held (begun c).loop-i.states c.home_in-at.result ≡ get_or (begun c).loop-i.states c.home_in-at.result no_lines
-state c = held_at _ _ (omega (arith, (begun c).loop-i.invariant.1, c.home_in-at.ensures.upper_bound))
+state : (c : goal.After-mark_of-m) → held c.loop-i.states c.home_in-at.result ≡ get_or c.loop-i.states c.home_in-at.result no_lines
+state c = held_at _ _ (omega (arith, c.loop-i.invariant.1, c.home_in-at.ensures.upper_bound))
 
 pub fifo-t-requires : goal.fifo-t-requires
 fifo-t-requires c =
-    let o = begun c.before in
-    let p = (start o).requires in
-    record { ready = set_ready p o.loop-i.invariant.0 _ _ (state c.before); block_nonzero = no_none p (home c.before).within; beyond_value = o.kept_from-beyond.ensures }
-
--- where the set became known
-abbrev settled : goal.Joined-not-t → goal.After-home_in-at
-settled c = c.before.before.before.before
+    let p = c.requires in
+    record { ready = set_ready p c.loop-i.invariant.0 _ _ (state c.before); block_nonzero = no_none p (home c.before).within; beyond_value = c.kept_from-beyond.ensures }
 
 -- only a miss is stored
-kept : (c : goal.Joined-not-t) → Stored (begun (settled c)).loop-i.states (settled c).home_in-at.result c.fifo-t.result.state c.if-not-t.states
+kept : (c : goal.After-mark_of-m) → Stored c.loop-i.states c.home_in-at.result c.fifo-t.result.state c.if-not-t.states
 kept c =
     let t = c.fifo-t in
-    let low : (settled c).home_in-at.result < length (begun (settled c)).loop-i.states = omega (arith, (begun (settled c)).loop-i.invariant.1, (settled c).home_in-at.ensures.upper_bound) in
+    let low : c.home_in-at.result < length c.loop-i.states = omega (arith, c.loop-i.invariant.1, c.home_in-at.ensures.upper_bound) in
     ⊎_elim
     (λ w. stored _ _ _ _ low w.2)
     (λ w. unchanged _ _ _ _ low w.1 (fifo_same _ _ _ _ t.ensures (not-false _ w.0.false)))
@@ -66,13 +48,11 @@ kept c =
 pub loop-i-preserved : goal.loop-i-preserved
 unfolding step
 loop-i-preserved c =
-    let d = settled c.before in
-    let o = begun d in
     let t = c.fifo-t in
     let m = c.mark_of-m in
-    let k = kept c.before in
-    let b = get_or (start o).args.blocks.now o.loop-i.i 0 in (
-      going_more (start o).requires o.loop-i.invariant.0 (home d) t.result (t.ensures ∙ ap (λ (s : SetState). step fifo_policy (start o).args.k s b) (sym (state d)))
+    let k = kept c in
+    let b = get_or c.args.blocks.now c.loop-i.i 0 in (
+      going_more c.requires c.loop-i.invariant.0 (home c) t.result (t.ensures ∙ ap (λ (s : SetState). step fifo_policy o.args.k s b) (sym (state c)))
           (held c.if-not-t.states) k.here k.there _ m.ensures.value m.ensures.upper_bound,
       k.long ∙ o.loop-i.invariant.1,
     )
@@ -87,4 +67,4 @@ pub shape_of-marks : goal.shape_of-marks
 shape_of-marks c = c.loop-i.invariant.0.same
 
 pub returns : goal.returns
-returns c = going_end (start c.before).requires c.loop-i.invariant.0 (omega arith)
+returns c = going_end c.requires c.loop-i.invariant.0 (omega arith)

@@ -27,13 +27,17 @@ pub returns-then-policy-eq-NMRU : goal.returns-then-policy-eq-NMRU
 returns-then-policy-eq-NMRU c = ran_at (sym c.if-policy-eq-NMRU.true) c.nmru_run.ensures
 
 -- a policy that is none of the others is the tree
-last : (c : goal.Else-policy-eq-NMRU) → let s = c.before.before.before.before.before in s.args.policy ≡ tree_policy
+last : (c : goal.After-tree_run-arg-1) → c.args.policy ≡ tree_policy
 last c =
-    let s = c.before.before.before.before.before in
-    omega (arith, c.if-policy-eq-LRU.false, c.if-policy-eq-FIFO.false, c.if-policy-eq-NMRU.false, (says_true (says_offered _ _) s.requires.offers).known)
+    omega (arith, c.if-policy-eq-LRU.false, c.if-policy-eq-FIFO.false, c.if-policy-eq-NMRU.false, (says_true (says_offered _ _) c.requires.offers).known)
+
+-- a policy that is none of the others is the tree
+last_2 : (c : goal.After-slice_known-2-1) → c.args.policy ≡ tree_policy
+last_2 c =
+    omega (arith, c.if-policy-eq-LRU.false, c.if-policy-eq-FIFO.false, c.if-policy-eq-NMRU.false, (says_true (says_offered _ _) c.requires.offers).known)
 
 pub tree_run-requires : goal.tree_run-requires
-tree_run-requires c = runs_at (last c.before) c.requires
+tree_run-requires c = runs_at (last c) c.requires
 
 pub returns : goal.returns
-returns c = ran_at (sym (last c.before.before.before.before)) c.tree_run.ensures
+returns c = ran_at (sym (last_2 c)) c.tree_run.ensures

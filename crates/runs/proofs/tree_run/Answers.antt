@@ -11,103 +11,89 @@ use Rattle.runs.proofs.Going.{Access, sets_ready, access_is, going_end, no_none}
 use Rattle.runs.proofs.Apart.{Apart, Turned, apart_start, stays, turns, apart_legal, apart_more}
 use Rattle.runs.proofs.tree_run.Goals as goal
 
--- before the loop: where the number of sets is known, and where the run begins
-abbrev counted : goal.At-loop-i → goal.After-sets_of-all
-counted o = o.before.before.before.before.before
-
-abbrev start : goal.At-loop-i → goal.Start
-start o = (counted o).before.before.before
-
--- where the access began
-abbrev begun : goal.Joined-at-last → goal.At-loop-i
-begun c = c.before.before.before.before
-
 pub home_in-at-requires : goal.home_in-at-requires
 home_in-at-requires c =
-    let o = c.before.before in
-    sets_ready (start o).requires _ (counted o).sets_of-all.ensures
+    let r = sets_ready c.requires _ c.sets_of-all.ensures in
+    record { count_nonzero = r.0; sets_value = r.1 }
 
 -- the set of the access
 home :
-    (c : goal.After-home_in-at) →
-    let o = c.before.before.before in
-    Access (start o).args.sets (start o).args.blocks.now o.loop-i.i c.home_in-at.result
+    (c : goal.After-state-in-loop-i-1) →
+    Access c.args.sets c.args.blocks.now c.loop-i.i c.home_in-at.result
 home c =
-    let o = c.before.before.before in
-    access_is (start o).requires _ (counted o).sets_of-all.ensures (omega arith) c.home_in-at.ensures.value c.home_in-at.ensures.upper_bound
+    access_is c.requires _ c.sets_of-all.ensures (omega arith) c.home_in-at.ensures.value c.home_in-at.ensures.upper_bound
+
+-- the set of the access
+home_2 :
+    (c : goal.After-table-1) →
+    Access c.args.sets c.args.blocks.now c.loop-i.i c.home_in-at.result
+home_2 c =
+    access_is c.requires _ c.sets_of-all.ensures (omega arith) c.home_in-at.ensures.value c.home_in-at.ensures.upper_bound
 
 -- the set that is held apart is that of the access
 turned :
-    (c : goal.Joined-at-last) →
-    let v = (begun c).loop-i in
-    let a = (start (begun c)).args in
+    (c : goal.After-table-1) →
+    let v = c.loop-i in
+    let a = c.args in
     Turned tree_policy a.k a.sets a.blocks.now a.marks.now v.marks c.if-at-last.states c.if-at-last.new c.if-at-last.state v.misses-table v.i
 turned c =
-    let p = (start (begun c)).requires in
-    let a = (begun c).loop-i.invariant.0 in
-    let h = home c.before in
+    let p = c.requires in
+    let a = c.loop-i.invariant.0 in
+    let h = home_2 c in
+    ⊎_elim (λ w. turns p a h w.0.true w.2 w.3 w.4) (λ w. stays p a h w.0.false w.1 w.2 w.3) c.if-at-last.branch
+
+-- the set that is held apart is that of the access
+turned_2 :
+    (c : goal.After-state-in-loop-i-1) →
+    let v = c.loop-i in
+    let a = c.args in
+    Turned tree_policy a.k a.sets a.blocks.now a.marks.now v.marks c.if-at-last.states c.if-at-last.new c.if-at-last.state v.misses-table v.i
+turned_2 c =
+    let p = c.requires in
+    let a = c.loop-i.invariant.0 in
+    let h = home c in
     ⊎_elim (λ w. turns p a h w.0.true w.2 w.3 w.4) (λ w. stays p a h w.0.false w.1 w.2 w.3) c.if-at-last.branch
 
 pub line-line-requires : goal.line-line-requires
 line-line-requires c =
-    let d = c.before in
-    let p = (start (begun d)).requires in
-    let u = turned d in
-    record { k_value = p.offers; state_value = apart_legal p u; block_nonzero = no_none p u.access.within; misses_value = (begun d).misses-table.ensures }
-
--- where the search for the line began
-abbrev looked : goal.Joined-not-line → goal.Joined-at-last
-looked c = c.before.before.before.before
+    let p = c.requires in
+    let u = turned c in
+    record { k_value = p.offers; state_value = apart_legal p u; block_nonzero = no_none p u.access.within; misses_value = c.misses-table.ensures }
 
 pub step-t-requires : goal.step-t-requires
 step-t-requires c =
-    let j = c.before.before.before in
-    let d = looked j in
-    let o = begun d in
-    let p = (start o).requires in
-    let z = o.before.before in
-    record { k_value = p.offers; state_value = apart_legal p (turned d); line_value = j.line-line.ensures; misses_value = z.misses-table.ensures; ones_value = z.ones-ones.ensures; zeros_value = z.zeros-zeros.ensures }
+    let p = c.requires in
+    record { k_value = p.offers; state_value = apart_legal p (turned c.before.before.before.before.before.before.before); line_value = c.line-line.ensures; misses_value = c.misses-table.ensures; ones_value = c.ones-ones.ensures; zeros_value = c.zeros-zeros.ensures }
 
 -- as many guesses as before
-as_many : (c : goal.Joined-not-line) → length c.if-not-line.guesses ≡ length (begun (looked c)).loop-i.guesses
+as_many : (c : goal.After-state-in-loop-i-1) → length c.if-not-line.guesses ≡ length c.loop-i.guesses
 as_many c =
-    let o = begun (looked c) in
-    let b = get_or (start o).args.blocks.now o.loop-i.i 0 in
+    let b = get_or c.args.blocks.now c.loop-i.i 0 in
     ⊎_elim
     (λ w. ap length w.2 ∙ length-set o.loop-i.guesses (b % 1024) ((c.line-line.result.bit % 256 + 127) % 128))
     (λ w. ap length w.1)
     c.if-not-line.branch
 
--- where the guess is as the next access finds it
-abbrev guessed : goal.After-state-in-loop-i-1 → goal.Joined-not-line
-guessed c = c.before.before.before.before.before.before
-
 pub bounds-marks-i : goal.bounds-marks-i
 bounds-marks-i c =
-    let d = looked (guessed c) in
-    let o = begun d in
-    let h : o.loop-i.i < length o.loop-i.marks = omega (arith, (turned d).access.within, o.loop-i.invariant.0.going.same, (start o).requires.room) in
+    let h : c.loop-i.i < length c.loop-i.marks = omega (arith, (turned_2 c).access.within, c.loop-i.invariant.0.going.same, c.requires.room) in
     search (rules, h)
 
 pub overflow_add-misses : goal.overflow_add-misses
 overflow_add-misses c =
-    let o = begun (looked (guessed c)) in
-    let s = (counted o).before.before in
-    search (rules, o.loop-i.invariant.0.going.few, c.mark_of-m.ensures.upper_bound, s.shared_slice_known-1.given)
+    search (rules, c.loop-i.invariant.0.going.few, c.mark_of-m.ensures.upper_bound, c.shared_slice_known-1.given)
 
 pub overflow_add-i : goal.overflow_add-i
 overflow_add-i c =
-    let s = (counted (begun (looked (guessed c)))).before.before in
-    search (rules, s.shared_slice_known-1.given)
+    search (rules, c.shared_slice_known-1.given)
 
 pub loop-i-preserved : goal.loop-i-preserved
 unfolding step
 loop-i-preserved c =
-    let d = looked (guessed c) in
     let m = c.mark_of-m in
     let t = c.step-t in (
-      apart_more (start (begun d)).requires (turned d) t.result t.ensures _ m.ensures.value m.ensures.upper_bound,
-      as_many (guessed c) ∙ (begun d).loop-i.invariant.1,
+      apart_more c.requires (turned_2 c) t.result t.ensures _ m.ensures.value m.ensures.upper_bound,
+      as_many c ∙ c.loop-i.invariant.1,
     )
 
 pub loop-i-init : goal.loop-i-init
@@ -117,4 +103,4 @@ pub shape_of-marks : goal.shape_of-marks
 shape_of-marks c = c.loop-i.invariant.0.going.same
 
 pub returns : goal.returns
-returns c = going_end (start c.before).requires c.loop-i.invariant.0.going (omega arith)
+returns c = going_end c.requires c.loop-i.invariant.0.going (omega arith)

@@ -11,4 +11,5 @@ pub overflow_add-parts : goal.overflow_add-parts
 overflow_add-parts c = rw c.home-q.ensures.value (omega (arith, c.requires.fact.limit_fits))
 
 pub returns : goal.returns
-returns c = rw c.home-q.ensures.value (refl, refl)
+returns c =
+    record { whole_after = rw c.home-q.ensures.value refl; parts_after = rw c.home-q.ensures.value refl }

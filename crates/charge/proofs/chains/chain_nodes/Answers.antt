@@ -9,18 +9,14 @@ use Rattle.charge.proofs.Buckets.{chained_more}
 use Rattle.charge.proofs.SmallSums.{at_end}
 use Rattle.charge.proofs.chains.chain_nodes.Goals as goal
 
--- where a node is read
-abbrev start : goal.After-node_at → goal.Start
-start c = c.before.before.before.before
-
-low : (c : goal.After-node_at) → c.loop-v.v < Sizes.nodes
-low c = omega (arith, c.loop-v-test.true, (start c).requires.laid.nodes_high)
+low : (c : goal.After-chain-1) → c.loop-v.v < Sizes.nodes
+low c = omega (arith, c.loop-v-test.true, c.requires.laid.nodes_high)
 
 pub loop-v-preserved : goal.loop-v-preserved
 unfolding case_of
 loop-v-preserved c =
     let w = c.loop-v.invariant in
-    (omega (arith, c.loop-v-test.true), chained_more _ _ _ _ _ (low c.before) w.1 (ap (λ x. x % Sizes.buckets) c.Node-at.ensures) (omega arith) refl)
+    (omega (arith, c.loop-v-test.true), chained_more _ _ _ _ _ (low c) w.1 (ap (λ x. x % Sizes.buckets) c.node_at.ensures) (omega arith) refl)
 
 pub returns : goal.returns
 returns c =
@@ -47,19 +43,19 @@ pub overflow_cast-chain : goal.overflow_cast-chain
 overflow_cast-chain c = omega arith
 
 pub overflow_cast-chain-in-loop-v : goal.overflow_cast-chain-in-loop-v
-overflow_cast-chain-in-loop-v c = omega (arith, low c.before)
+overflow_cast-chain-in-loop-v c = omega (arith, low c)
 
 pub overflow_add-chain : goal.overflow_add-chain
-overflow_add-chain c = omega (arith, low c.before)
+overflow_add-chain c = omega (arith, low c)
 
 pub offset_bounds-chain-v : goal.offset_bounds-chain-v
-offset_bounds-chain-v c = omega (arith, low c.before)
+offset_bounds-chain-v c = omega (arith, low c)
 
 pub bounds-chain-v : goal.bounds-chain-v
-bounds-chain-v c = omega (arith, low c.before)
+bounds-chain-v c = omega (arith, low c)
 
 pub overflow_add-chain-in-loop-v : goal.overflow_add-chain-in-loop-v
-overflow_add-chain-in-loop-v c = omega (arith, low c.before)
+overflow_add-chain-in-loop-v c = omega (arith, low c)
 
 pub offset_bounds-chain-h-in-loop-v : goal.offset_bounds-chain-h-in-loop-v
 offset_bounds-chain-h-in-loop-v c = omega arith
@@ -68,7 +64,7 @@ pub bounds-chain-h-in-loop-v : goal.bounds-chain-h-in-loop-v
 bounds-chain-h-in-loop-v c = omega arith
 
 pub overflow_add-v : goal.overflow_add-v
-overflow_add-v c = omega (arith, low c.before)
+overflow_add-v c = omega (arith, low c)
 
 pub loop-v-smaller : goal.loop-v-smaller
 loop-v-smaller c = omega (arith, c.loop-v-test.true)

@@ -6,14 +6,17 @@ use mathlib.Core.Bool.{cond}
 use Rattle.charge.specs.Sizes as Sizes
 use Rattle.charge.proofs.chains.lower_if.Goals as goal
 
-limit : (c : goal.Joined-hit) → c.if-hit.x ≡ cond c.args.hit c.args.l Sizes.no_limit
+limit : (c : goal.After-row_known-1) → c.if-hit.x ≡ cond c.args.hit c.args.l Sizes.no_limit
 limit c = ⊎_elim (λ w. rw w.0.true w.1) (λ w. rw w.0.false w.1) c.if-hit.branch
+
+limit_2 : (c : goal.Else-x-old) → c.if-hit.x ≡ cond c.args.hit c.args.l Sizes.no_limit
+limit_2 c = ⊎_elim (λ w. rw w.0.true w.1) (λ w. rw w.0.false w.1) c.if-hit.branch
 
 pub overflow_cast-result : goal.overflow_cast-result
 overflow_cast-result c = omega (arith, c.if-x-old.true, c.ranges.old.fits)
 
 pub returns-then-x-old : goal.returns-then-x-old
-returns-then-x-old c = omega (arith, limit c.before.before, c.if-x-old.true)
+returns-then-x-old c = omega (arith, limit c, c.if-x-old.true)
 
 pub returns-else-x-old : goal.returns-else-x-old
-returns-else-x-old c = omega (arith, limit c.before)
+returns-else-x-old c = omega (arith, limit_2 c)

@@ -8,7 +8,7 @@ use Rattle.charge.proofs.Adding.{Adding, head_at, end_at_lem, adding_limits, add
 use Rattle.charge.proofs.facts.charge_each.Given as goal
 
 abbrev pub invariant-loop-i : goal.invariant-loop-i
-invariant-loop-i l = Adding l.file l.trailer l.interruptions l.initial.numbers l.i l.p l.cover l.charged l.entered l.numbers
+invariant-loop-i l = Adding l.file l.trailer l.interruptions l.initial.numbers l.p l.numbers l.cover entered.before.before.before l.entered
 
 abbrev pub decreases-loop-i : goal.decreases-loop-i
 decreases-loop-i l = l.n - l.i

@@ -4,28 +4,18 @@ use Rattle.charge.proofs.Buckets.{chained_start}
 use Rattle.charge.proofs.LoopsOut.{outers_start}
 use Rattle.charge.proofs.facts.charge_facts.Goals as goal
 
--- where the first table is lent
-abbrev start : goal.After-outers-1 → goal.Start
-start c = c.before.before.before.before
-
--- where both are filled
-abbrev filled : goal.After-charge_each-arg-4-1 → goal.After-outers-2-1
-filled c = c.before.before.before.before.before
-
 pub charge_each-requires : goal.charge_each-requires
 charge_each-requires c =
-    let n = (filled c).before in
-    let l = n.before.before in
-    record { ready = (start l.before).requires.ready; outers = l.chain_loops.ensures; chained = n.chain_nodes.ensures; covered = (start l.before).requires.covered; facts_added = (start l.before).requires.facts_added; part = (start l.before).requires.part }
+    record { ready = c.requires.ready; outers = c.chain_loops.ensures; chained = c.chain_nodes.ensures; covered = c.requires.covered; facts_added = c.requires.facts_added; part = c.requires.part }
 
 pub chain_loops-requires : goal.chain_loops-requires
 chain_loops-requires c =
-    let r = (start c).requires.ready in
+    let r = c.requires.ready in
     record { laid = r.laid; sound_graph = r.sound.graph; outers = outers_start _ }
 
 pub chain_nodes-requires : goal.chain_nodes-requires
 chain_nodes-requires c =
-    record { laid = (start c.before.before).requires.ready.laid; chained = chained_start _ }
+    record { laid = c.requires.ready.laid; chained = chained_start _ }
 
 pub shape_of-numbers : goal.shape_of-numbers
 shape_of-numbers c = c.charge_each.ensures.part_2.room

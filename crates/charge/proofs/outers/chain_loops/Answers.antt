@@ -8,16 +8,11 @@ use Rattle.charge.proofs.LoopsOut.{outers_more}
 use Rattle.charge.proofs.SmallSums.{at_end}
 use Rattle.charge.proofs.outers.chain_loops.Goals as goal
 
--- where the loop begins a turn
-abbrev start : goal.In-loop-j → goal.Start
-start c = c.before.before.before
+low : (c : goal.After-next_out) → c.loop-j.j < Sizes.loops
+low c = omega (arith, c.loop-j-test.true, c.requires.laid.loops_high)
 
--- where the next loop out is found
-abbrev turn : goal.After-next_out → goal.In-loop-j
-turn c = c.before.before
-
-low : (c : goal.In-loop-j) → c.loop-j.j < Sizes.loops
-low c = omega (arith, c.loop-j-test.true, (start c).requires.laid.loops_high)
+low_2 : (c : goal.After-way_told-1) → c.loop-j.j < Sizes.loops
+low_2 c = omega (arith, c.loop-j-test.true, c.requires.laid.loops_high)
 
 pub returns : goal.returns
 returns c =
@@ -30,22 +25,22 @@ loop-j-init c = (omega arith, c.requires.outers)
 
 pub next_out-requires : goal.next_out-requires
 next_out-requires c =
-    record { laid = (start c.before).requires.laid; sound_graph = (start c.before).requires.sound_graph; outers = c.loop-j.invariant.1; j_lt_loops = c.loop-j-test.true }
+    record { laid = c.requires.laid; sound_graph = c.requires.sound_graph; outers = c.loop-j.invariant.1; j_lt_loops = c.loop-j-test.true }
 
 pub overflow_cast-outers : goal.overflow_cast-outers
-overflow_cast-outers c = omega (arith, low (turn c))
+overflow_cast-outers c = omega (arith, low c)
 
 pub offset_bounds-outers-j : goal.offset_bounds-outers-j
-offset_bounds-outers-j c = omega (arith, low (turn c))
+offset_bounds-outers-j c = omega (arith, low c)
 
 pub bounds-outers-j : goal.bounds-outers-j
-bounds-outers-j c = low (turn c)
+bounds-outers-j c = low_2 c
 
 pub overflow_add-j : goal.overflow_add-j
-overflow_add-j c = omega (arith, low (turn c))
+overflow_add-j c = omega (arith, low_2 c)
 
 pub loop-j-smaller : goal.loop-j-smaller
-loop-j-smaller c = omega (arith, (turn c).loop-j-test.true)
+loop-j-smaller c = omega (arith, c.loop-j-test.true)
 
 pub loop-j-preserved : goal.loop-j-preserved
-loop-j-preserved c = (omega (arith, (turn c).loop-j-test.true), outers_more _ _ _ _ (low (turn c)) (turn c).loop-j.invariant.1 c.next_out.ensures)
+loop-j-preserved c = (omega (arith, c.loop-j-test.true), outers_more _ _ _ _ (low_2 c) c.loop-j.invariant.1 c.next_out.ensures)

@@ -4,19 +4,13 @@ use borrow.Author.Rules.{rules}
 use Rattle.charge.proofs.Entries.{entries_whole, entries_loop}
 use Rattle.charge.proofs.outers.entries_of.Goals as goal
 
--- the scope is a loop
-abbrev start : goal.Else-h-eq65535 → goal.Start
-start c = c.before.before.before.before
-
 pub returns-then-h-eq65535 : goal.returns-then-h-eq65535
 returns-then-h-eq65535 c = entries_whole _ _ _ _ c.requires.h_value c.if-h-eq65535.true
 
 pub outer_of-n-requires : goal.outer_of-n-requires
 outer_of-n-requires c =
-    record { ready = (start c).requires.ready; outers = (start c).requires.outers; w_lt_loops = (start c).requires.scope_lt_loops c.if-h-eq65535.false }
+    record { ready = c.requires.ready; outers = c.requires.outers; w_lt_loops = c.requires.scope_lt_loops c.if-h-eq65535.false }
 
 pub returns : goal.returns
 returns c =
-    let o = c.before in
-    let e = o.before in
-    c.at_most.ensures ∙ entries_loop _ _ _ _ (start e).requires.h_value _ e.if-h-eq65535.false o.outer_of-n.ensures
+    c.at_most.ensures ∙ entries_loop _ _ _ _ c.requires.h_value _ c.if-h-eq65535.false c.outer_of-n.ensures

@@ -7,39 +7,42 @@ use Rattle.charge.specs.Sizes as Sizes
 use Rattle.charge.proofs.LoopsOut.{Passing, passing_start, passing_low, passing_found, passing_more, passing_end}
 use Rattle.charge.proofs.outers.next_out.Goals as goal
 
--- where the loop begins a turn
-abbrev start : goal.In-loop-c → goal.Start
-start c = c.before.before.before.before
-
--- where the loop is read
-abbrev turn : goal.Else-header-loop_at → goal.In-loop-c
-turn c = c.before.before.before
-
-low : (c : goal.In-loop-c) → (c.loop-c.c - 1 < (start c).args.j) × (c.loop-c.c - 1 < (start c).args.trailer.loops)
+low : (c : goal.In-loop-c) → (c.loop-c.c - 1 < c.args.j) × (c.loop-c.c - 1 < c.args.trailer.loops)
 unfolding case_of
-low c = passing_low _ (start c).requires.sound_graph _ (start c).requires.j_lt_loops _ c.loop-c.invariant c.loop-c-test.true
+low c = passing_low _ c.requires.sound_graph _ c.requires.j_lt_loops _ c.loop-c.invariant c.loop-c-test.true
 
-place : (c : goal.In-loop-c) → c.loop-c.c - 1 < Sizes.loops
-place c = omega (arith, (low c).1, (start c).requires.laid.loops_high)
+low_2 : (c : goal.After-c-1) → (c.loop-c.c - 1 < c.args.j) × (c.loop-c.c - 1 < c.args.trailer.loops)
+unfolding case_of
+low_2 c = passing_low _ c.requires.sound_graph _ c.requires.j_lt_loops _ c.loop-c.invariant c.loop-c-test.true
+
+low_3 : (c : goal.After-way_told-1) → (c.loop-c.c - 1 < c.args.j) × (c.loop-c.c - 1 < c.args.trailer.loops)
+unfolding case_of
+low_3 c = passing_low _ c.requires.sound_graph _ c.requires.j_lt_loops _ c.loop-c.invariant c.loop-c-test.true
+
+low_4 : (c : goal.Else-header-loop_at) → (c.loop-c.c - 1 < c.args.j) × (c.loop-c.c - 1 < c.args.trailer.loops)
+unfolding case_of
+low_4 c = passing_low _ c.requires.sound_graph _ c.requires.j_lt_loops _ c.loop-c.invariant c.loop-c-test.true
+
+place : (c : goal.Else-header-loop_at) → c.loop-c.c - 1 < Sizes.loops
+place c = omega (arith, (low_4 c).1, c.requires.laid.loops_high)
+
+place_2 : (c : goal.After-way_told-1) → c.loop-c.c - 1 < Sizes.loops
+place_2 c = omega (arith, (low_3 c).1, c.requires.laid.loops_high)
 
 pub returns-then-header-loop_at : goal.returns-then-header-loop_at
 unfolding case_of
 returns-then-header-loop_at c =
-    let i = c.before.before.before in
-    passing_found _ (start i).requires.sound_graph _ (start i).requires.j_lt_loops _ i.loop-c.invariant _ _ i.loop_at-header.ensures c.loop_at.ensures i.loop-c-test.true
+    passing_found _ c.requires.sound_graph _ c.requires.j_lt_loops _ c.loop-c.invariant _ _ c.loop_at-header.ensures c.loop_at.ensures c.loop-c-test.true
     c.if-header-loop_at.true
 
 more : (c : goal.After-c-1) →
-    let i = turn c.before in
-    let a = (start i).args in
-    let n = get_or a.outers.now (i.loop-c.c - 1) 0 in
-    (n < i.loop-c.c) × Passing (case_of a.file.now a.trailer) a.j n
+    let a = c.args in
+    let n = get_or a.outers.now (c.loop-c.c - 1) 0 in
+    (n < c.loop-c.c) × Passing (case_of a.file.now a.trailer) a.j n
 unfolding case_of
 more c =
-    let e = c.before in
-    let i = turn e in
-    passing_more _ (start i).requires.sound_graph _ (start i).requires.j_lt_loops _ i.loop-c.invariant _ _ i.loop_at-header.ensures e.loop_at.ensures i.loop-c-test.true
-    (omega (arith, e.if-header-loop_at.false)) _ ((start i).requires.outers.at _ (low i).0)
+    passing_more _ c.requires.sound_graph _ c.requires.j_lt_loops _ c.loop-c.invariant _ _ c.loop_at-header.ensures c.loop_at.ensures c.loop-c-test.true
+    (omega (arith, c.if-header-loop_at.false)) _ (c.requires.outers.at _ (low_2 c).0)
 
 pub returns : goal.returns
 unfolding case_of
@@ -58,16 +61,16 @@ overflow_sub-at c = omega (arith, c.loop-c-test.true)
 
 pub loop_at-requires : goal.loop_at-requires
 loop_at-requires c =
-    record { laid = (start c).requires.laid; j_lt_loops = (low c).1 }
+    record { laid = c.requires.laid; j_lt_loops = (low c).1 }
 
 pub overflow_cast-c : goal.overflow_cast-c
-overflow_cast-c c = omega (arith, place (turn c))
+overflow_cast-c c = omega (arith, place c)
 
 pub offset_bounds-outers-at : goal.offset_bounds-outers-at
-offset_bounds-outers-at c = omega (arith, place (turn c))
+offset_bounds-outers-at c = omega (arith, place c)
 
 pub bounds-outers-at : goal.bounds-outers-at
-bounds-outers-at c = place (turn c)
+bounds-outers-at c = place_2 c
 
 pub loop-c-smaller : goal.loop-c-smaller
 loop-c-smaller c = (more c).0

@@ -13,42 +13,44 @@ use Rattle.charge.proofs.sets.least_floor.Goals as goal
 pub loop-j-init : goal.loop-j-init
 loop-j-init c = flooring_start _ _ _ _ _ _ _ c.requires.summed _ c.requires.q_bound _
 
--- where a turn begins
-abbrev start : goal.In-loop-j → goal.Start
-start c = c.before.before.before.before.before
+-- the place in the tables
+place : (c : goal.In-loop-j) → place_of c.args.q (c.loop-j.j + 1) < Sizes.sets_by_limits
+place c = omega (arith, c.loop-j-test.true, c.requires.summed.laid.ways_high, c.requires.q_bound)
 
 -- the place in the tables
-place : (c : goal.In-loop-j) → place_of (start c).args.q (c.loop-j.j + 1) < Sizes.sets_by_limits
-place c = omega (arith, c.loop-j-test.true, (start c).requires.summed.laid.ways_high, (start c).requires.q_bound)
+place_2 : (c : goal.After-way_told-in-loop-j-1) → place_of c.args.q (c.loop-j.j + 1) < Sizes.sets_by_limits
+place_2 c = omega (arith, c.loop-j-test.true, c.requires.summed.laid.ways_high, c.requires.q_bound)
+
+-- the place in the tables
+place_3 : (c : goal.After-m-in-loop-j-1) → place_of c.args.q (c.loop-j.j + 1) < Sizes.sets_by_limits
+place_3 c = omega (arith, c.loop-j-test.true, c.requires.summed.laid.ways_high, c.requires.q_bound)
+
+-- the place in the tables
+place_4 : (c : goal.After-way_told-in-loop-j-2-1) → place_of c.args.q (c.loop-j.j + 1) < Sizes.sets_by_limits
+place_4 c = omega (arith, c.loop-j-test.true, c.requires.summed.laid.ways_high, c.requires.q_bound)
 
 pub overflow_add-m : goal.overflow_add-m
 overflow_add-m c =
-    let i = c.before in
-    omega (arith, in_small _ _ _ _ _ _ _ (start i).requires.summed _ (start i).requires.q_bound _ _ _ _ i.loop-j.invariant i.loop-j-test.true, i.loop-j-test.true, (start i).requires.summed.laid.ways_high)
-
--- where M(l) is there
-abbrev turn : goal.After-m-in-loop-j-2-1 → goal.In-loop-j
-turn c = c.before.before
+    omega (arith, in_small _ _ _ _ _ _ _ c.requires.summed _ c.requires.q_bound _ _ _ _ c.loop-j.invariant c.loop-j-test.true, c.loop-j-test.true, c.requires.summed.laid.ways_high)
 
 pub overflow_sub-m : goal.overflow_sub-m
 overflow_sub-m c =
-    let i = turn c in
-    out_fits _ _ _ _ _ _ _ (start i).requires.summed _ (start i).requires.q_bound _ _ _ _ i.loop-j.invariant i.loop-j-test.true
+    out_fits _ _ _ _ _ _ _ c.requires.summed _ c.requires.q_bound _ _ _ _ c.loop-j.invariant c.loop-j-test.true
 
 pub floor_of-requires : goal.floor_of-requires
 floor_of-requires c =
-    let i = turn c in
-    let h = i.loop-j-test.true in
-    record { l_le_ways = omega (arith, h); ways_bound = (start i).requires.summed.laid.ways_high; m_bound = next_small _ _ _ _ _ _ _ (start i).requires.summed _ (start i).requires.q_bound _ _ _ _ i.loop-j.invariant h }
+    let h = c.loop-j-test.true in
+    record { l_le_ways = omega (arith, h); ways_bound = c.requires.summed.laid.ways_high; m_bound = next_small _ _ _ _ _ _ _ c.requires.summed _ c.requires.q_bound _ _ _ _ c.loop-j.invariant h }
 
 pub loop-j-preserved : goal.loop-j-preserved
 loop-j-preserved c =
-    let i = turn c.before.before in
-    flooring_more _ _ _ _ _ _ _ (start i).requires.summed _ (start i).requires.q_bound _ _ _ _ i.loop-j.invariant i.loop-j-test.true _ _ _ refl c.floor_of.ensures c.lesser-x.ensures
+    flooring_more _ _ _ _ _ _ _ c.requires.summed _ c.requires.q_bound _ _ _ _ c.loop-j.invariant c.loop-j-test.true _ _ _ refl c.floor_of.ensures c.lesser-x.ensures
 
 pub returns : goal.returns
 unfolding case_of
-returns c = lowest_end _ _ _ _ _ c.loop-j.invariant.lowest c.loop-j-test.false
+returns c =
+    let r = lowest_end _ _ _ _ _ c.loop-j.invariant.lowest c.loop-j-test.false in
+    record { value = r.0; upper_bound = r.1 }
 
 pub offset_bounds-fetched-q : goal.offset_bounds-fetched-q
 offset_bounds-fetched-q c = omega (arith, c.requires.q_bound)
@@ -69,13 +71,13 @@ pub offset_bounds-entered-at : goal.offset_bounds-entered-at
 offset_bounds-entered-at c = omega (arith, place c)
 
 pub bounds-entered-at : goal.bounds-entered-at
-bounds-entered-at c = place c
+bounds-entered-at c = place_2 c
 
 pub offset_bounds-spent-at : goal.offset_bounds-spent-at
-offset_bounds-spent-at c = omega (arith, place c.before)
+offset_bounds-spent-at c = omega (arith, place_3 c)
 
 pub bounds-spent-at : goal.bounds-spent-at
-bounds-spent-at c = place c.before
+bounds-spent-at c = place_4 c
 
 pub loop-j-smaller : goal.loop-j-smaller
-loop-j-smaller c = omega (arith, (turn c.before.before).loop-j-test.true)
+loop-j-smaller c = omega (arith, c.loop-j-test.true)

@@ -10,11 +10,7 @@ overflow_add-a-2 c = omega (arith, A_small _ _ _ _ _ _ _ c.requires.summed _ c.r
 
 pub returns-then-has_floors : goal.returns-then-has_floors
 returns-then-has_floors c =
-    let asked = c.before.before in
-    (
-      floor_set _ _ _ _ _ _ _ asked.requires.summed _ asked.requires.q_bound _ (sym asked.has_floors.ensures ∙ c.if-has_floors.true) c.least_floor.ensures.value,
-      omega (arith, c.least_floor.ensures.upper_bound, A_small _ _ _ _ _ _ _ asked.requires.summed _ asked.requires.q_bound),
-    )
+    record { value = floor_set _ _ _ _ _ _ _ c.requires.summed _ c.requires.q_bound _ (sym c.has_floors.ensures ∙ c.if-has_floors.true) c.least_floor.ensures.value; upper_bound = omega (arith, c.least_floor.ensures.upper_bound, A_small _ _ _ _ _ _ _ c.requires.summed _ c.requires.q_bound) }
 
 pub returns : goal.returns
 returns c =

@@ -15,10 +15,9 @@ use Rattle.evidence.proofs.rows.bad_blocks.Goals as goal
 
 pub returns-then-x-h : goal.returns-then-x-h
 returns-then-x-h c =
-    let a = c.before.before.before in
-    let i = a.args in
-    some_found _ _ _ a.loop-i.invariant.0 _ a.loop-i-test.true
-    (block_test i.file.now i.trailer i.h _ _ _ a.slot_at-x.ensures _ _ _ a.requires.stands (set_held a.requires.set_at) a.loop-i-test.true a.loop-i.invariant.1 c.elsewhere.ensures)
+    let i = c.args in
+    some_found _ _ _ c.loop-i.invariant.0 _ c.loop-i-test.true
+    (block_test i.file.now i.trailer i.h _ _ _ c.slot_at-x.ensures _ _ _ c.requires.stands (set_held c.requires.set_at) c.loop-i-test.true c.loop-i.invariant.1 c.elsewhere.ensures)
     c.if-x-h.true
 
 pub overflow_add-low : goal.overflow_add-low
@@ -28,12 +27,11 @@ overflow_add-low c =
 
 pub loop-i-preserved : goal.loop-i-preserved
 loop-i-preserved c =
-    let a = c.before.before.before in
-    let i = a.args in (
-      passed_more _ _ _ _ a.loop-i.invariant.0 a.loop-i-test.true
-          (block_test i.file.now i.trailer i.h _ _ _ a.slot_at-x.ensures _ _ _ a.requires.stands (set_held a.requires.set_at) a.loop-i-test.true a.loop-i.invariant.1 c.elsewhere.ensures)
+    let i = c.args in (
+      passed_more _ _ _ _ c.loop-i.invariant.0 c.loop-i-test.true
+          (block_test i.file.now i.trailer i.h _ _ _ c.slot_at-x.ensures _ _ _ c.requires.stands (set_held c.requires.set_at) c.loop-i-test.true c.loop-i.invariant.1 c.elsewhere.ensures)
           c.if-x-h.false,
-      lowest_more _ _ _ a.slot_at-x.ensures,
+      lowest_more _ _ _ c.slot_at-x.ensures,
     )
 
 pub returns : goal.returns

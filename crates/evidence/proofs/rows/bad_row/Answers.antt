@@ -8,33 +8,26 @@ use Rattle.evidence.proofs.rows.bad_row.Goals as goal
 
 pub returns-then-n-gt9 : goal.returns-then-n-gt9
 returns-then-n-gt9 c =
-    let a = c.before.before in
-    row_high _ _ _ _ c.number_at-n.ensures c.if-n-gt9.true ∙ row_is _ _ _ _ _ a.row_at-at.ensures.value
+    row_high _ _ _ _ c.number_at-n.ensures c.if-n-gt9.true ∙ row_is _ _ _ _ _ c.row_at-at.ensures.value
 
 pub returns-then-n-ge8 : goal.returns-then-n-ge8
 returns-then-n-ge8 c =
-    let a = c.before.before.before in
-    row_other _ _ _ _ a.number_at-n.ensures _ c.if-n-ge8.true (omega arith) c.bad_rest.ensures
-    ∙ row_is _ _ _ _ _ a.row_at-at.ensures.value
+    row_other _ _ _ _ c.number_at-n.ensures _ c.if-n-ge8.true (omega arith) c.bad_rest.ensures
+    ∙ row_is _ _ _ _ _ c.row_at-at.ensures.value
 
 pub returns-then-h-n : goal.returns-then-h-n
 returns-then-h-n c =
-    let a = c.before.before.before.before in
-    row_long _ _ _ _ a.number_at-n.ensures (omega arith) (limit_low _ _ _ a.requires.stands _ c.if-h-n.true)
-    ∙ row_is _ _ _ _ _ a.row_at-at.ensures.value
+    row_long _ _ _ _ c.number_at-n.ensures (omega arith) (limit_low _ _ _ c.requires.stands _ c.if-h-n.true)
+    ∙ row_is _ _ _ _ _ c.row_at-at.ensures.value
 
 pub returns-then-bad_blocks : goal.returns-then-bad_blocks
 returns-then-bad_blocks c =
-    let t3 = c.before.before in
-    let a = t3.before.before.before.before in
-    row_block _ _ _ _ a.number_at-n.ensures (omega arith) (limit_high _ _ _ a.requires.stands _ t3.if-h-n.false) _
+    row_block _ _ _ _ c.number_at-n.ensures (omega arith) (limit_high _ _ _ c.requires.stands _ c.if-h-n.false) _
     c.bad_blocks.ensures c.if-bad_blocks.true
-    ∙ row_is _ _ _ _ _ a.row_at-at.ensures.value
+    ∙ row_is _ _ _ _ _ c.row_at-at.ensures.value
 
 pub returns : goal.returns
 returns c =
-    let t3 = c.before.before.before in
-    let a = t3.before.before.before.before in
-    row_set _ _ _ _ a.number_at-n.ensures (omega arith) (limit_high _ _ _ a.requires.stands _ t3.if-h-n.false) _
+    row_set _ _ _ _ c.number_at-n.ensures (omega arith) (limit_high _ _ _ c.requires.stands _ c.if-h-n.false) _
     c.bad_blocks.ensures _ c.if-bad_blocks.false c.bad_rest-2.ensures
-    ∙ row_is _ _ _ _ _ a.row_at-at.ensures.value
+    ∙ row_is _ _ _ _ _ c.row_at-at.ensures.value

@@ -10,8 +10,7 @@ use Rattle.evidence.proofs.rows.bad_rows.Goals as goal
 
 pub bad_row-requires : goal.bad_row-requires
 bad_row-requires c =
-    let s = c.before.before.before in
-    record { ready = made_ready _ _ _ s.requires.laid s.sets_of-sets.ensures; stands = search rules; whole = search rules; j_bound = search rules }
+    record { ready = made_ready _ _ _ c.requires.laid c.sets_of-sets.ensures; stands = search rules; whole = search rules; j_bound = search rules }
 
 pub returns-then-bad_row : goal.returns-then-bad_row
 returns-then-bad_row c =

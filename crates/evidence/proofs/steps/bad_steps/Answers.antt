@@ -12,48 +12,26 @@ loop-i-init c = reached_start _ _ _ c.requires.stands _ c.first_edge-i.ensures
 
 pub returns-then-h-u : goal.returns-then-h-u
 returns-then-h-u c =
-    let a = c.before.before.before in
-    let s = a.before.before.before.before in
-    reached_after _ _ _ s.requires.stands _ a.loop-i.invariant a.loop-i-test.true s.requires.shaped _ c.from_at-u.ensures (omega (arith, c.if-h-u.true))
+    reached_after _ _ _ c.requires.stands _ c.loop-i.invariant c.loop-i-test.true c.requires.shaped _ c.from_at-u.ensures (omega (arith, c.if-h-u.true))
 
 pub bad_step-requires : goal.bad_step-requires
 bad_step-requires c =
-    let b = c.before.before in
-    let a = b.before in
-    let w = a.loop-i.invariant in
-    let s = a.before.before.before.before in
-    let ready = made_ready _ _ _ s.requires.laid s.sets_of-sets.ensures in (
-      s.requires.laid,
-      (
-        ready,
-        (
-          s.requires.stands,
-          (
-            s.requires.whole,
-            (
-              s.requires.sound_rows,
-              record {
-                there = a.loop-i-test.true;
-                from_is = b.from_at-u.ensures;
-                low = omega (arith, w.above _ (omega arith) a.loop-i-test.true, b.from_at-u.ensures);
+    let w = c.loop-i.invariant in
+    let ready = made_ready _ _ _ c.requires.laid c.sets_of-sets.ensures in
+    record { laid = c.requires.laid; ready = ready; stands = c.requires.stands; whole = c.requires.whole; sound_rows = c.requires.sound_rows; from = record {
+                there = c.loop-i-test.true;
+                from_is = c.from_at-u.ensures;
+                low = omega (arith, w.above _ (omega arith) c.loop-i-test.true, c.from_at-u.ensures);
                 high = omega (arith, c.if-h-u.false);
-              },
-            ),
-          ),
-        ),
-      ),
-    )
+              } }
 
 pub returns-then-bad_step : goal.returns-then-bad_step
 returns-then-bad_step c =
-    let a = c.before.before.before.before.before in
-    least_found _ _ _ _ a.loop-i.invariant.passed a.loop-i-test.true c.bad_step.ensures c.if-bad_step.true
+    least_found _ _ _ _ c.loop-i.invariant.passed c.loop-i-test.true c.bad_step.ensures c.if-bad_step.true
 
 pub loop-i-preserved : goal.loop-i-preserved
 loop-i-preserved c =
-    let a = c.before.before.before.before.before in
-    let s = a.before.before.before.before in
-    reached_more _ _ _ s.requires.stands _ a.loop-i.invariant a.loop-i-test.true _ c.bad_step.ensures c.if-bad_step.false
+    reached_more _ _ _ c.requires.stands _ c.loop-i.invariant c.loop-i-test.true _ c.bad_step.ensures c.if-bad_step.false
 
 pub returns : goal.returns
 returns c = least_end _ _ _ c.loop-i.invariant.passed c.loop-i-test.false

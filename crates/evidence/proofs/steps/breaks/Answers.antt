@@ -7,79 +7,45 @@ use Rattle.evidence.proofs.steps.breaks.Goals as goal
 
 pub returns-then-x-h : goal.returns-then-x-h
 returns-then-x-h c =
-    let a = c.before.before in
-    breaks_b _ _ _ a.requires.stands _ _ _ _ _ a.row_at-s.ensures.value a.number_at-m.ensures c.if-x-h.true
+    breaks_b _ _ _ c.requires.stands _ _ _ _ _ c.row_at-s.ensures.value c.number_at-m.ensures c.if-x-h.true
 
 pub returns-then-n-eq9 : goal.returns-then-n-eq9
 returns-then-n-eq9 c =
-    let b = c.before in
-    let d = b.before.before in
-    let a = d.before.before in
-    breaks_not_since _ _ _ a.requires.stands _ _ _ _ _ a.row_at-s.ensures.value a.number_at-m.ensures d.if-x-h.false _ _
-    b.row_at-r.ensures.value b.number_at-n.ensures c.if-n-eq9.true
+    breaks_not_since _ _ _ c.requires.stands _ _ _ _ _ c.row_at-s.ensures.value c.number_at-m.ensures c.if-x-h.false _ _
+    c.row_at-r.ensures.value c.number_at-n.ensures c.if-n-eq9.true
 
 pub returns-then-n-eq8 : goal.returns-then-n-eq8
 returns-then-n-eq8 c =
-    let b = c.before.before in
-    let d = b.before.before in
-    let a = d.before.before in
-    breaks_many _ _ _ a.requires.stands _ _ _ _ _ a.row_at-s.ensures.value a.number_at-m.ensures d.if-x-h.false _ _
-    b.row_at-r.ensures.value b.number_at-n.ensures c.if-n-eq9.false c.if-n-eq8.true
+    breaks_many _ _ _ c.requires.stands _ _ _ _ _ c.row_at-s.ensures.value c.number_at-m.ensures c.if-x-h.false _ _
+    c.row_at-r.ensures.value c.number_at-n.ensures c.if-n-eq9.false c.if-n-eq8.true
 
 pub returns-then-m-ge8 : goal.returns-then-m-ge8
 returns-then-m-ge8 c =
-    let b = c.before.before.before in
-    let d = b.before.before in
-    let a = d.before.before in
-    breaks_no_set _ _ _ a.requires.stands _ _ _ _ _ a.row_at-s.ensures.value a.number_at-m.ensures d.if-x-h.false _ _
-    b.row_at-r.ensures.value b.number_at-n.ensures c.if-n-eq9.false c.if-n-eq8.false c.if-m-ge8.true
+    breaks_no_set _ _ _ c.requires.stands _ _ _ _ _ c.row_at-s.ensures.value c.number_at-m.ensures c.if-x-h.false _ _
+    c.row_at-r.ensures.value c.number_at-n.ensures c.if-n-eq9.false c.if-n-eq8.false c.if-m-ge8.true
 
 pub returns-then-same_row : goal.returns-then-same_row
 returns-then-same_row c =
-    let e = c.before.before in
-    let t3 = e.before.before in
-    let t2 = t3.before in
-    let b = t2.before in
-    let d = b.before.before in
-    let a = d.before.before in
-    let l = number_at _ _ _ a.requires.sound_rows _ _ _ a.requires.i_bound.0 b.row_at-r.ensures.value b.number_at-n.ensures in
-    breaks_same _ _ _ a.requires.stands _ _ _ _ _ a.row_at-s.ensures.value a.number_at-m.ensures d.if-x-h.false _ _
-    b.row_at-r.ensures.value b.number_at-n.ensures t2.if-n-eq9.false t3.if-n-eq8.false (omega arith) _
-    (e.same_row.ensures c.if-same_row.true) (omega (arith, t2.if-n-eq9.false, t3.if-n-eq8.false)) c.lost.ensures
+    let l = number_at _ _ _ c.requires.sound_rows _ _ _ c.requires.i_bound.0 c.row_at-r.ensures.value c.number_at-n.ensures in
+    breaks_same _ _ _ c.requires.stands _ _ _ _ _ c.row_at-s.ensures.value c.number_at-m.ensures c.if-x-h.false _ _
+    c.row_at-r.ensures.value c.number_at-n.ensures c.if-n-eq9.false c.if-n-eq8.false (omega arith) _
+    (c.same_row.ensures c.if-same_row.true) (omega (arith, c.if-n-eq9.false, c.if-n-eq8.false)) c.lost.ensures
 
 pub returns-then-lost : goal.returns-then-lost
 returns-then-lost c =
-    let e = c.before.before.before in
-    let t3 = e.before.before in
-    let t2 = t3.before in
-    let b = t2.before in
-    let d = b.before.before in
-    let a = d.before.before in
-    breaks_lost _ _ _ a.requires.stands _ _ _ _ _ a.row_at-s.ensures.value a.number_at-m.ensures d.if-x-h.false _ _
-    b.row_at-r.ensures.value b.number_at-n.ensures t2.if-n-eq9.false t3.if-n-eq8.false (omega arith) _
+    breaks_lost _ _ _ c.requires.stands _ _ _ _ _ c.row_at-s.ensures.value c.number_at-m.ensures c.if-x-h.false _ _
+    c.row_at-r.ensures.value c.number_at-n.ensures c.if-n-eq9.false c.if-n-eq8.false (omega arith) _
     c.lost-2.ensures c.if-lost.true
 
 pub drops-requires : goal.drops-requires
 drops-requires c =
-    let e = c.before.before.before in
-    let b = e.before.before.before.before in
-    let d = b.before.before in
-    let a = d.before.before in
-    let l = number_at _ _ _ a.requires.sound_rows _ _ _ a.requires.i_bound.0 b.row_at-r.ensures.value b.number_at-n.ensures in (
-      rising_at _ _ _ a.requires.sound_rows _ _ _ a.requires.i_bound.0 b.row_at-r.ensures.value b.number_at-n.ensures (omega arith) b.row_at-r.ensures.row_size_in_bounds,
-      rising_at _ _ _ a.requires.sound_rows _ _ _ a.requires.i_bound.1 a.row_at-s.ensures.value a.number_at-m.ensures (omega arith) a.row_at-s.ensures.row_size_in_bounds,
-    )
+    let l = number_at _ _ _ c.requires.sound_rows _ _ _ c.requires.i_bound.0 c.row_at-r.ensures.value c.number_at-n.ensures in
+    record { rising_at = rising_at _ _ _ c.requires.sound_rows _ _ _ c.requires.i_bound.0 c.row_at-r.ensures.value c.number_at-n.ensures (omega arith) c.row_at-r.ensures.row_size_in_bounds; rising_at_2 = rising_at _ _ _ c.requires.sound_rows _ _ _ c.requires.i_bound.1 c.row_at-s.ensures.value c.number_at-m.ensures (omega arith) c.row_at-s.ensures.row_size_in_bounds }
 
 pub returns : goal.returns
 returns c =
-    let e = c.before.before.before.before in
-    let t3 = e.before.before in
-    let t2 = t3.before in
-    let b = t2.before in
-    let d = b.before.before in
-    let a = d.before.before in
-    let l = number_at _ _ _ a.requires.sound_rows _ _ _ a.requires.i_bound.0 b.row_at-r.ensures.value b.number_at-n.ensures in
-    breaks_drops _ _ _ a.requires.stands _ _ _ _ _ a.row_at-s.ensures.value a.number_at-m.ensures d.if-x-h.false _ _
-    b.row_at-r.ensures.value b.number_at-n.ensures t2.if-n-eq9.false t3.if-n-eq8.false (omega arith) _ _
+    let l = number_at _ _ _ c.requires.sound_rows _ _ _ c.requires.i_bound.0 c.row_at-r.ensures.value c.number_at-n.ensures in
+    breaks_drops _ _ _ c.requires.stands _ _ _ _ _ c.row_at-s.ensures.value c.number_at-m.ensures c.if-x-h.false _ _
+    c.row_at-r.ensures.value c.number_at-n.ensures c.if-n-eq9.false c.if-n-eq8.false (omega arith) _ _
     c.lost-2.ensures c.if-lost.false
-    (omega (arith, t2.if-n-eq9.false, t3.if-n-eq8.false)) c.drops.ensures
+    (omega (arith, c.if-n-eq9.false, c.if-n-eq8.false)) c.drops.ensures

@@ -15,20 +15,18 @@ returns-then-m-j c =
 
 pub returns-then-x-y : goal.returns-then-x-y
 returns-then-x-y c =
-    let a = c.before.before.before in
-    let p = a.requires.rising_at_2 in
-    merged_above _ _ _ _ (set_held p.set) _ _ a.loop-i.invariant a.loop-i-test.true
-    a.if-m-j.false _ _ c.slot_at-x.ensures c.slot_at-y.ensures p.rises c.if-x-y.true
+    let p = c.requires.rising_at_2 in
+    merged_above _ _ _ _ (set_held p.set) _ _ c.loop-i.invariant c.loop-i-test.true
+    c.if-m-j.false _ _ c.slot_at-x.ensures c.slot_at-y.ensures p.rises c.if-x-y.true
 
 pub loop-i-preserved : goal.loop-i-preserved
 loop-i-preserved c =
-    let a = c.before.before.before.before in
-    let e = set_held a.requires.rising_at_2.set in
+    let e = set_held c.requires.rising_at_2.set in
     ⊎_elim
     (λ w. merged_at _ _ _ _ _ _ _ w.1
-    (merged_same _ _ _ _ e _ _ a.loop-i.invariant a.loop-i-test.true a.if-m-j.false _ _ c.slot_at-x.ensures c.slot_at-y.ensures a.requires.rising_at.rises w.0.true))
+    (merged_same _ _ _ _ e _ _ c.loop-i.invariant c.loop-i-test.true c.if-m-j.false _ _ c.slot_at-x.ensures c.slot_at-y.ensures c.requires.rising_at.rises w.0.true))
     (λ w. merged_at _ _ _ _ _ _ _ w.1
-    (merged_skip _ _ _ _ e _ _ a.loop-i.invariant a.loop-i-test.true a.if-m-j.false _ _ c.slot_at-x.ensures c.slot_at-y.ensures (λ z. absurd (omega arith)) w.0.false))
+    (merged_skip _ _ _ _ e _ _ c.loop-i.invariant c.loop-i-test.true c.if-m-j.false _ _ c.slot_at-x.ensures c.slot_at-y.ensures (λ z. absurd (omega arith)) w.0.false))
     c.if-x-y-2.branch
 
 pub returns : goal.returns

@@ -9,13 +9,11 @@ use Rattle.evidence.proofs.steps.first_edge.Goals as goal
 
 pub loop-low-preserved-then-from_at-v : goal.loop-low-preserved-then-from_at-v
 loop-low-preserved-then-from_at-v c =
-    let a = c.before.before.before in
-    halves_low _ _ _ _ _ a.loop-low.invariant a.requires.shaped _ _ (omega arith) (omega arith) c.from_at.ensures _ refl (omega (arith, c.if-from_at-v.true))
+    halves_low _ _ _ _ _ c.loop-low.invariant c.requires.shaped _ _ (omega arith) (omega arith) c.from_at.ensures _ refl (omega (arith, c.if-from_at-v.true))
 
 pub loop-low-preserved : goal.loop-low-preserved
 loop-low-preserved c =
-    let a = c.before.before.before in
-    halves_high _ _ _ _ _ a.loop-low.invariant a.requires.shaped _ _ (omega arith) (omega arith) c.from_at.ensures _ refl (omega (arith, c.if-from_at-v.false))
+    halves_high _ _ _ _ _ c.loop-low.invariant c.requires.shaped _ _ (omega arith) (omega arith) c.from_at.ensures _ refl (omega (arith, c.if-from_at-v.false))
 
 pub loop-low-init : goal.loop-low-init
 loop-low-init c = halves_start _ _ _

@@ -11,7 +11,7 @@ use Rattle.evidence.proofs.Slots.{set_held}
 use Rattle.evidence.proofs.steps.holds.Given as goal
 
 abbrev pub invariant-loop-i : goal.invariant-loop-i
-invariant-loop-i l = Passed (λ l.i. eqb ((row_at l.file l.at).slot l.i) l.x) l.n l.i
+invariant-loop-i l = Passed (λ h. eqb ((row_at l.file l.at).slot h) l.x) l.n l.i
 
 abbrev pub decreases-loop-i : goal.decreases-loop-i
 decreases-loop-i l = l.n - l.i

@@ -12,6 +12,5 @@ returns-then-elsewhere c =
 
 pub returns : goal.returns
 returns c =
-    let h = c.before.before in
-    forgets_same _ _ _ h.requires.stands _ _ h.if-x-eq65535.false _ h.elsewhere.ensures _
+    forgets_same _ _ _ c.requires.stands _ _ c.if-x-eq65535.false _ c.elsewhere.ensures _
     c.if-elsewhere.false c.holds.ensures

@@ -12,32 +12,25 @@ node_at-requires c =
 
 pub returns-then-node_at-h : goal.returns-then-node_at-h
 returns-then-node_at-h c =
-    let a = c.before.before.before in
     rw (eq-eqb _ _ c.if-node_at-h.true) at
-    (step_told_lem _ _ _ a.requires.stands _ a.requires.bad_step.bad _ c.Node-at.result _ _ a.from_at-u.ensures c.Node-at.ensures refl refl)
+    (step_told_lem _ _ _ c.requires.stands _ c.requires.bad_step.bad _ c.node_at.result _ _ c.from_at-u.ensures c.node_at.ensures refl refl)
 
 pub overflow_sub-u : goal.overflow_sub-u
 overflow_sub-u c =
-    let a = c.before.before.before.before in
-    omega (arith, step_inside _ _ _ a.requires.stands _ a.requires.bad_step.bad, a.from_at-u.ensures)
+    omega (arith, step_inside _ _ _ c.requires.stands _ c.requires.bad_step.bad, c.from_at-u.ensures)
 
 pub row_at-requires : goal.row_at-requires
 row_at-requires c =
-    let a = c.before.before.before.before in
-    record { whole = a.requires.whole; j_bound = omega (arith, step_inside _ _ _ a.requires.stands _ a.requires.bad_step.bad, a.from_at-u.ensures) }
+    record { whole = c.requires.whole; j_bound = omega (arith, step_inside _ _ _ c.requires.stands _ c.requires.bad_step.bad, c.from_at-u.ensures) }
 
 pub returns-then-number_at-eq8 : goal.returns-then-number_at-eq8
 returns-then-number_at-eq8 c =
-    let d = c.before.before.before.before in
-    let a = d.before.before.before in
-    rw (ne_eqb _ _ d.if-node_at-h.false, eq-eqb _ _ c.if-number_at-eq8.true) at
-    (step_told_lem _ _ _ a.requires.stands _ a.requires.bad_step.bad _ d.Node-at.result _ c.number_at.result a.from_at-u.ensures d.Node-at.ensures
+    rw (ne_eqb _ _ c.if-node_at-h.false, eq-eqb _ _ c.if-number_at-eq8.true) at
+    (step_told_lem _ _ _ c.requires.stands _ c.requires.bad_step.bad _ c.node_at.result _ c.number_at.result c.from_at-u.ensures c.node_at.ensures
     c.row_at.ensures.value c.number_at.ensures)
 
 pub returns : goal.returns
 returns c =
-    let d = c.before.before.before.before in
-    let a = d.before.before.before in
-    rw (ne_eqb _ _ d.if-node_at-h.false, ne_eqb _ _ c.if-number_at-eq8.false) at
-    (step_told_lem _ _ _ a.requires.stands _ a.requires.bad_step.bad _ d.Node-at.result _ c.number_at.result a.from_at-u.ensures d.Node-at.ensures
+    rw (ne_eqb _ _ c.if-node_at-h.false, ne_eqb _ _ c.if-number_at-eq8.false) at
+    (step_told_lem _ _ _ c.requires.stands _ c.requires.bad_step.bad _ c.node_at.result _ c.number_at.result c.from_at-u.ensures c.node_at.ensures
     c.row_at.ensures.value c.number_at.ensures)

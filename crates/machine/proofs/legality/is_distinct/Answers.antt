@@ -12,8 +12,7 @@ use Rattle.machine.proofs.legality.is_distinct.Goals as goal
 
 pub returns-then-stands_from : goal.returns-then-stands_from
 returns-then-stands_from c =
-    let v = c.before.before.before.before in
-    sym (v.loop-i.invariant.1 ∙ distinct_not v.args.lines v.loop-i.i (omega arith) c.if-b.true (rw add-one at (sym c.Stands-from.ensures ∙ c.if-stands_from.true)))
+    sym (c.loop-i.invariant.1 ∙ distinct_not c.args.lines c.loop-i.i (omega arith) c.if-b.true (rw add-one at (sym c.stands_from.ensures ∙ c.if-stands_from.true)))
 
 pub loop-i-preserved : goal.loop-i-preserved
 loop-i-preserved c =
