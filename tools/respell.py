@@ -59,7 +59,7 @@ def in_snake_case(name):
 def is_turned(name):
     if name[:1].isupper():
         return "-" in name
-    return "-" in name or re.search(r"[a-z][A-Z]", name) is not None
+    return "-" in name or re.search(r"[a-z0-9][A-Z]", name) is not None
 
 
 def new_name(name):

@@ -9,7 +9,7 @@ use borrow.Rule.Slice.PartMut.{put_mid}
 use Rattle.paper.specs.declared.StepAnswer.{StepAnswer}
 use Rattle.paper.specs.declared.TraceAnswer.{TraceAnswer}
 use Rattle.paper.specs.declared.Verdict.{Verdict}
-use Rattle.paper.specs.Files.{u8_at, u16At, u32_at}
+use Rattle.paper.specs.Files.{u8_at, u16_at, u32_at}
 use Rattle.paper.specs.Verdicts.{verdict}
 use Rattle.frames.specs.declared.Head.{Head}
 use Rattle.frames.specs.Little.{littles, u16s, u64s}
@@ -29,7 +29,7 @@ tail_left l ys a h =
     drop_at (take a l) _ a (length-take-le a l h) ∙ rw (drop-drop, e, drop_of_length-le l {i = length l} (omega arith), append-nil)
 
 module _ (r : List ℕ) where
-  pub step_asked_lem : {lines : List ℕ} {block : ℕ} {a : StepAnswer} → lines ≡ u16s (take (length r - Places.step_lines) (drop Places.step_lines r)) 8 → block ≡ u16At r Places.step_block →
+  pub step_asked_lem : {lines : List ℕ} {block : ℕ} {a : StepAnswer} → lines ≡ u16s (take (length r - Places.step_lines) (drop Places.step_lines r)) 8 → block ≡ u16_at r Places.step_block →
       StepPromise (u8_at r 0) (u8_at r Places.step_ways) (record { lines = lines; bits = u8_at r Places.step_bits }) (record { 0 = block }) a → a ≡ step_asked r
   unfolding step_asked
   step_asked_lem l b p = rw (← part_rest r Places.step_lines, ← l, ← b) (step_answer_lem _ _ _ _ _ p)
@@ -46,7 +46,7 @@ module _ (r : List ℕ) where
         rw (← e, c) (rw m at (trace_answer _ _ _ _ _ _ _ p), rw m at p.marks)
 
   module _ (lent : List ℕ) where
-    pub check_asked_lem : {numbers after : List ℕ} {i n m : ℕ} {v : Verdict} → i ≡ u16At r 0 → n ≡ u32_at r Places.check_file → m ≡ u32_at r Places.check_numbers → numbers ≡ u64s (take (length lent - n) (drop n lent)) m →
+    pub check_asked_lem : {numbers after : List ℕ} {i n m : ℕ} {v : Verdict} → i ≡ u16_at r 0 → n ≡ u32_at r Places.check_file → m ≡ u32_at r Places.check_numbers → numbers ≡ u64s (take (length lent - n) (drop n lent)) m →
         CheckPromise (take (n - 0) lent) i numbers v after → (v ≡ check_asked r lent) × (after ≡ numbers_after r lent)
     unfolding check_asked numbers_after
     check_asked_lem {numbers} {after} {i} {n} {m} {v} a e k b p =

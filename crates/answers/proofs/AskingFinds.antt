@@ -5,7 +5,7 @@ use mathlib.Core.Path.{◌≡◌, sym, ◌∙◌, ap, subst}
 use mathlib.Core.List.{List, ◌++◌}
 use lib.ListN.{length, take, drop}
 use Rattle.paper.specs.declared.FindAnswer.{FindAnswer}
-use Rattle.paper.specs.Files.{u16At, u32_at}
+use Rattle.paper.specs.Files.{u16_at, u32_at}
 use Rattle.frames.specs.declared.Head.{Head}
 use Rattle.frames.specs.Little.{littles, u16s}
 use Rattle.frames.specs.Places as Places
@@ -16,7 +16,7 @@ use Rattle.bolgverk.specs.Promises.{FindPromise}
 use Rattle.bolgverk.proofs.Determined.{find_determined}
 
 module _ (r lent : List ℕ) where
-  pub find_asked : {rows after : List ℕ} {scope block n m : ℕ} {a : FindAnswer} → scope ≡ u16At r 0 → block ≡ u16At r Places.find_block → n ≡ u32_at r Places.find_file →
+  pub find_asked : {rows after : List ℕ} {scope block n m : ℕ} {a : FindAnswer} → scope ≡ u16_at r 0 → block ≡ u16_at r Places.find_block → n ≡ u32_at r Places.find_file →
       m ≡ u32_at r Places.find_numbers → rows ≡ u16s (take (length lent - n) (drop n lent)) m → FindPromise (take (n - 0) lent) scope block rows a after → FindAsked r lent a after
   find_asked {rows} {after} {scope} {block} {n} {m} {a} s b e k l p =
       let z : n - 0 ≡ n = omega arith in

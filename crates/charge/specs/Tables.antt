@@ -6,7 +6,7 @@ use Rattle.paper.specs.Machines.{none}
 use Rattle.paper.specs.Cases.{Case, range_of}
 use Rattle.paper.specs.Graphs.{count}
 use Rattle.paper.specs.Bounds.{list_length, entered, fact_bound, part_at}
-use Rattle.paper.specs.Files.{u16At, loop_at, fact_at, fact_end, case_of}
+use Rattle.paper.specs.Files.{u16_at, loop_at, fact_at, fact_end, case_of}
 use Rattle.charge.specs.declared.facts.Cost.{Cost}
 use Rattle.charge.specs.declared.heads.Head.{Head}
 use Rattle.charge.specs.Chained.{lowest_limit}
@@ -75,10 +75,10 @@ module _ (f : List ℕ) (trailer : Trailer) (p : ℕ) where
   unfoldable pub head_of : Head
   head_of =
       record {
-        scope = u16At f p;
-        block = u16At f (p + 2);
-        limit = u16At f (p + 4);
-        range = range_of trailer.nodes (loop_at f trailer) (u16At f p);
+        scope = u16_at f p;
+        block = u16_at f (p + 2);
+        limit = u16_at f (p + 4);
+        range = range_of trailer.nodes (loop_at f trailer) (u16_at f p);
         next = fact_end f trailer p;
       }
 
@@ -86,8 +86,8 @@ module _ (f : List ℕ) (trailer : Trailer) (p : ℕ) where
   unfoldable pub cost_of : ℕ → Cost
   cost_of interruptions =
       record {
-        block = u16At f (p + 2);
-        limit = u16At f (p + 4);
+        block = u16_at f (p + 2);
+        limit = u16_at f (p + 4);
         entered = entered (case_of f trailer) interruptions (fact_at f p);
         bound = fact_bound (case_of f trailer) interruptions (fact_at f p);
         next = fact_end f trailer p;

@@ -10,7 +10,7 @@ use lib.Seq.{ext_get_or}
 use borrow.Author.Tests.{eq-eqb}
 use Rattle.paper.specs.declared.Trailer.{Trailer}
 use Rattle.paper.specs.Lists.{sum_to, each}
-use Rattle.paper.specs.Files.{u16At, node_at, edges_at, from_at, to_at, loop_at, fact_place, case_of}
+use Rattle.paper.specs.Files.{u16_at, node_at, edges_at, from_at, to_at, loop_at, fact_place, case_of}
 use Rattle.paper.specs.Writing.{FileContent, per_loop, trailer_in, loop_in, rows_named, rows_before, case_in, rows_at, loop_numbers, head_numbers, row_numbers, content_by, bad_lists}
 use Rattle.paper.proofs.Parts.{stands_self}
 use Rattle.paper.proofs.LoopSizes.{per_low, visits_without}
@@ -56,11 +56,11 @@ module _ (f : List ℕ) (t : Trailer) where
 
   length_edges : length c.edges ≡ 2 * t.edges
   unfolding content_by
-  length_edges = length_spaced (u16At f) 2 (edges_at t) (2 * t.edges)
+  length_edges = length_spaced (u16_at f) 2 (edges_at t) (2 * t.edges)
 
   length_nodes : length c.nodes ≡ t.nodes
   unfolding content_by
-  length_nodes = length_spaced (u16At f) 2 0 t.nodes
+  length_nodes = length_spaced (u16_at f) 2 0 t.nodes
 
   pub content_trailer : trailer_in c ≡ t
   unfolding trailer_in content_by
@@ -80,7 +80,7 @@ module _ (f : List ℕ) (t : Trailer) where
   content_before i l = sum_same _ _ i (λ j q. content_rows j (omega arith))
 
   pub row_length : (i : ℕ) → length (row_numbers f t i) ≡ 8 * rows_at f t i
-  row_length i = length_spaced (u16At f) 2 (fact_place f t i + 6) (8 * rows_at f t i)
+  row_length i = length_spaced (u16_at f) 2 (fact_place f t i + 6) (8 * rows_at f t i)
 
   length_rows : length c.rows ≡ 8 * sum_to (rows_at f t) t.facts
   unfolding content_by
@@ -98,13 +98,13 @@ module _ (f : List ℕ) (t : Trailer) where
       rw (edges, loops, heads, eq-eqb _ _ rows) refl
 
   -- number k of fact i's rows
-  pub row_number : (i k : ℕ) → i < t.facts → k < 8 * rows_at f t i → get_or c.rows (8 * rows_before c i + k) 0 ≡ u16At f (fact_place f t i + 6 + 2 * k)
+  pub row_number : (i k : ℕ) → i < t.facts → k < 8 * rows_at f t i → get_or c.rows (8 * rows_before c i + k) 0 ≡ u16_at f (fact_place f t i + 6 + 2 * k)
   unfolding content_by
   row_number i k l m =
       let e : 8 * rows_before c i ≡ sum_to (λ j. 8 * rows_at f t j) i = ap (λ (n : ℕ). 8 * n) (content_before i (omega arith)) ∙ sym (sum_times 8 (rows_at f t) i) in
       ap (λ (p : ℕ). get_or c.rows (p + k) 0) e
       ∙ each_at (row_numbers f t) (λ j. 8 * rows_at f t j) t.facts i k (λ j q. row_length j) l m
-      ∙ get_d_spaced (u16At f) 2 (fact_place f t i + 6) (8 * rows_at f t i) k m
+      ∙ get_d_spaced (u16_at f) 2 (fact_place f t i + 6) (8 * rows_at f t i) k m
 
   pub head_number : (i k : ℕ) → i < t.facts → k < 4 → get_or c.heads (4 * i + k) 0 ≡ get_or (head_numbers f t i) k 0
   unfolding content_by
@@ -116,11 +116,11 @@ module _ (f : List ℕ) (t : Trailer) where
 
   node_number : (v : ℕ) → v < t.nodes → get_or c.nodes v 0 ≡ node_at f v
   unfolding content_by node_at
-  node_number v l = get_d_spaced (u16At f) 2 0 t.nodes v l ∙ ap (λ (p : ℕ). u16At f p) (omega arith)
+  node_number v l = get_d_spaced (u16_at f) 2 0 t.nodes v l ∙ ap (λ (p : ℕ). u16_at f p) (omega arith)
 
-  edge_number : (k : ℕ) → k < 2 * t.edges → get_or c.edges k 0 ≡ u16At f (edges_at t + 2 * k)
+  edge_number : (k : ℕ) → k < 2 * t.edges → get_or c.edges k 0 ≡ u16_at f (edges_at t + 2 * k)
   unfolding content_by
-  edge_number k l = get_d_spaced (u16At f) 2 (edges_at t) (2 * t.edges) k l
+  edge_number k l = get_d_spaced (u16_at f) 2 (edges_at t) (2 * t.edges) k l
 
   pub content_loop : (j : ℕ) → j < t.loops → loop_in c j ≡ loop_at f t j
   unfolding loop_in loop_at content_by
@@ -147,8 +147,8 @@ module _ (f : List ℕ) (t : Trailer) where
         edges = edges;
         loops = loops;
         fetch = λ v l. node_number v (omega arith);
-        from = λ i l. edge_number (2 * i) (omega arith) ∙ ap (λ (p : ℕ). u16At f p) (omega arith);
-        to = λ i l. edge_number (2 * i + 1) (omega arith) ∙ ap (λ (p : ℕ). u16At f p) (omega arith);
+        from = λ i l. edge_number (2 * i) (omega arith) ∙ ap (λ (p : ℕ). u16_at f p) (omega arith);
+        to = λ i l. edge_number (2 * i + 1) (omega arith) ∙ ap (λ (p : ℕ). u16_at f p) (omega arith);
         loop = λ j l. content_loop j (omega arith);
       }
 
@@ -161,9 +161,9 @@ module _ (f : List ℕ) (t : Trailer) where
         limit = head_number i 2 l (omega arith);
         rows = λ j m.
             record {
-              number = ap (λ (p : ℕ). get_or c.rows p 0) (omega arith) ∙ row_number i (8 * j) l (omega arith) ∙ ap (λ (p : ℕ). u16At f p) (omega arith);
+              number = ap (λ (p : ℕ). get_or c.rows p 0) (omega arith) ∙ row_number i (8 * j) l (omega arith) ∙ ap (λ (p : ℕ). u16_at f p) (omega arith);
               slot = λ k n.
-                  ap (λ (p : ℕ). get_or c.rows p 0) (omega arith) ∙ row_number i (8 * j + 1 + k) l (omega arith) ∙ ap (λ (p : ℕ). u16At f p) (omega arith);
+                  ap (λ (p : ℕ). get_or c.rows p 0) (omega arith) ∙ row_number i (8 * j + 1 + k) l (omega arith) ∙ ap (λ (p : ℕ). u16_at f p) (omega arith);
             };
       }
 

@@ -11,7 +11,7 @@ use borrow.Author.Tests.{ltb-true}
 use Rattle.paper.specs.Cases.{Fact}
 use Rattle.paper.specs.Demands.{Bytes}
 use Rattle.paper.specs.Records as Records
-use Rattle.paper.specs.Files.{u8_at, u16At, u32_at}
+use Rattle.paper.specs.Files.{u8_at, u16_at, u32_at}
 use Rattle.paper.specs.OneFact.{words, head_bytes}
 use Rattle.paper.specs.Writing.{number_bytes, record_bytes, words_at}
 use Rattle.paper.proofs.Says.{both}
@@ -36,12 +36,12 @@ module _ (f : List ℕ) where
   unfolding number_at
   u8_number p = omega arith
 
-  pub u16_number : (p : ℕ) → number_at f 2 p ≡ u16At f p
-  unfolding number_at u16At
+  pub u16_number : (p : ℕ) → number_at f 2 p ≡ u16_at f p
+  unfolding number_at u16_at
   u16_number p = omega arith
 
   pub u32_number : (p : ℕ) → number_at f 4 p ≡ u32_at f p
-  unfolding number_at u16At u32_at
+  unfolding number_at u16_at u32_at
   u32_number p =
       let a : p + 1 + 1 ≡ p + 2 = omega arith in
       rw a (omega arith)
@@ -116,8 +116,8 @@ record_taken (width ∷ fields) (x ∷ values) = rw (record_taken fields values)
 -- A section of 16-bit numbers: reading undoes writing.
 pub words_read : (f : List ℕ) (p : ℕ) (xs : List ℕ) → Stands f p (words xs) → words_at f p (length xs) ≡ xs
 words_read f p xs h =
-    let n = length_spaced (u16At f) 2 p (length xs) in
-    ext_get_or 0 _ _ n (λ i l. get_d_spaced (u16At f) 2 p (length xs) i (omega arith) ∙ word_is f p xs h i (omega arith))
+    let n = length_spaced (u16_at f) 2 p (length xs) in
+    ext_get_or 0 _ _ n (λ i l. get_d_spaced (u16_at f) 2 p (length xs) i (omega arith) ∙ word_is f p xs h i (omega arith))
 
 pub length_head : (t : Fact) → length (head_bytes t) ≡ Records.head_size
 length_head t = length_words (t.scope ∷ t.block ∷ t.limit ∷ [])

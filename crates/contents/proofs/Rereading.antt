@@ -13,7 +13,7 @@ use Rattle.paper.specs.Lists.{each, spaced, part}
 use Rattle.paper.specs.Machines.{none}
 use Rattle.paper.specs.Cases.{size, range_of, scope_of}
 use Rattle.paper.specs.Records as Records
-use Rattle.paper.specs.Files.{u16At, end_at, trailer_of, bad_cache, edges_at, loops_at, loop_place, facts_at, head_end, loop_at, fact_end, fact_place, case_of}
+use Rattle.paper.specs.Files.{u16_at, end_at, trailer_of, bad_cache, edges_at, loops_at, loop_place, facts_at, head_end, loop_at, fact_end, fact_place, case_of}
 use Rattle.paper.specs.OneFact.{words, head_bytes}
 use Rattle.paper.specs.Writing.{FileContent, per_loop, trailer_in, loop_in, rows_named, rows_before, fact_in, case_in, loop_values, loop_bytes, rows_in, fact_bytes, file_of, words_at, rows_at, loop_numbers, head_numbers, row_numbers, content_by, content_of, layout_verdict, bad_rows_named, write_verdict}
 use Rattle.paper.proofs.FactLaws.{head_sound}
@@ -95,12 +95,12 @@ module _ (c : FileContent) where
         fact_part_lem = stands_move f _ (sym here) (stands_at f (facts_at t) (fact_bytes c) t.facts i l (stands_left f (facts_at t) (facts_part t.facts) _ (facts_part_lem c w)))
 
         -- its head's numbers
-        number_back : (n : ℕ) → n < 3 → u16At f (fact_place f t i + 2 * n) ≡ get_or ((fact_in c i).scope ∷ (fact_in c i).block ∷ (fact_in c i).limit ∷ []) n 0
+        number_back : (n : ℕ) → n < 3 → u16_at f (fact_place f t i + 2 * n) ≡ get_or ((fact_in c i).scope ∷ (fact_in c i).block ∷ (fact_in c i).limit ∷ []) n 0
         unfolding fact_bytes
         number_back n m = word_is f (fact_place f t i) _ (stands_left f (fact_place f t i) (head_bytes (fact_in c i)) _ fact_part_lem) n m
 
-        fact_scope : u16At f (fact_place f t i) ≡ (fact_in c i).scope
-        fact_scope = ap (λ (q : ℕ). u16At f q) (omega arith) ∙ number_back 0 (omega arith)
+        fact_scope : u16_at f (fact_place f t i) ≡ (fact_in c i).scope
+        fact_scope = ap (λ (q : ℕ). u16_at f q) (omega arith) ∙ number_back 0 (omega arith)
 
         rows_named_lem : rows_at f t i ≡ rows_named c i
         unfolding rows_at case_of

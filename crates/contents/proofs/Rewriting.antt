@@ -13,7 +13,7 @@ use Rattle.paper.specs.Lists.{each, spaced}
 use Rattle.paper.specs.Demands.{Bytes}
 use Rattle.paper.specs.Cases.{size, scope_of}
 use Rattle.paper.specs.Records.{loop_fields, loop_size}
-use Rattle.paper.specs.Files.{u16At, end_at, trailer_of, bad_cache, edges_at, loops_at, loop_place, facts_at, head_end, loop_at, fact_end, fact_place, case_of}
+use Rattle.paper.specs.Files.{u16_at, end_at, trailer_of, bad_cache, edges_at, loops_at, loop_place, facts_at, head_end, loop_at, fact_end, fact_place, case_of}
 use Rattle.paper.specs.OneFact.{words, head_bytes}
 use Rattle.paper.specs.Writing.{FileContent, per_loop, loop_in, rows_before, case_in, record_bytes, loop_values, loop_bytes, trailer_bytes, rows_in, fact_bytes, file_of, words_at, rows_at, row_numbers, content_by, content_of, layout_verdict, bad_rows_named, write_verdict}
 use Rattle.paper.proofs.LayoutTests.{offsets_at}
@@ -77,7 +77,7 @@ module _ (f : List ℕ) (t : Trailer) where
   fact_length : (i : ℕ) → length (fact_again i) ≡ 6 + 16 * rows_at f t i
   fact_length i =
       length-append (head_bytes ((case_of f t).fact i)) (words (row_numbers f t i))
-      ∙ omega (arith, length_head ((case_of f t).fact i), length_words (row_numbers f t i), length_spaced (u16At f) 2 (head_end (fact_place f t i)) (8 * rows_at f t i))
+      ∙ omega (arith, length_head ((case_of f t).fact i), length_words (row_numbers f t i), length_spaced (u16_at f) 2 (head_end (fact_place f t i)) (8 * rows_at f t i))
 
   facts_place : (i : ℕ) → facts_at t + length (each fact_again i) ≡ fact_place f t i
   unfolding each fact_place fact_end rows_at case_of
@@ -119,10 +119,10 @@ module _ (f : List ℕ) (t : Trailer) where
         (stands_move f _ (sym (facts_place t.facts ∙ full)) trailer)))))))
       where
         edges_here : edges_at t ≡ 0 + length (words (words_at f 0 t.nodes))
-        edges_here = omega (arith, length_words (words_at f 0 t.nodes), length_spaced (u16At f) 2 0 t.nodes)
+        edges_here = omega (arith, length_words (words_at f 0 t.nodes), length_spaced (u16_at f) 2 0 t.nodes)
 
         loops_here : loops_at t ≡ edges_at t + length (words (words_at f (edges_at t) (2 * t.edges)))
-        loops_here = omega (arith, length_words (words_at f (edges_at t) (2 * t.edges)), length_spaced (u16At f) 2 (edges_at t) (2 * t.edges))
+        loops_here = omega (arith, length_words (words_at f (edges_at t) (2 * t.edges)), length_spaced (u16_at f) 2 (edges_at t) (2 * t.edges))
 
         loop_here : (j : ℕ) → loop_place t j ≡ loops_at t + length (each (λ i. loop_bytes t.version (loop_at f t i)) j)
         loop_here j = omega (arith, loops_place j)

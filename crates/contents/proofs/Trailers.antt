@@ -11,7 +11,7 @@ use Rattle.paper.specs.declared.Trailer.{Trailer}
 use Rattle.paper.specs.Lists.{spaced}
 use Rattle.paper.specs.Demands.{Bytes}
 use Rattle.paper.specs.Records as Records
-use Rattle.paper.specs.Files.{u8_at, u16At, u32_at, end_at, letters, trailer_of, bad_letter, bad_letters, bad_offsets, edges_at, loops_at, facts_at}
+use Rattle.paper.specs.Files.{u8_at, u16_at, u32_at, end_at, letters, trailer_of, bad_letter, bad_letters, bad_offsets, edges_at, loops_at, facts_at}
 use Rattle.paper.specs.Writing.{trailer_numbers, trailer_bytes, record_bytes}
 use Rattle.paper.proofs.Least.{none_some, some_none}
 use Rattle.paper.proofs.Says.{neither}
@@ -28,7 +28,7 @@ abbrev trailer_read : List ℕ → List ℕ
 trailer_read f =
     let p = end_at f in
     u32_at f p ∷ u32_at f (p + Records.edges_offset) ∷ u32_at f (p + Records.loops_offset) ∷ u32_at f (p + Records.facts_offset)
-    ∷ u16At f (p + Records.nodes_field) ∷ u16At f (p + Records.edges_field) ∷ u16At f (p + Records.loops_field) ∷ u16At f (p + Records.facts_field)
+    ∷ u16_at f (p + Records.nodes_field) ∷ u16_at f (p + Records.edges_field) ∷ u16_at f (p + Records.loops_field) ∷ u16_at f (p + Records.facts_field)
     ∷ u8_at f (p + Records.policy_field) ∷ u8_at f (p + Records.ways_field) ∷ u8_at f (p + Records.sets_field) ∷ u8_at f (p + Records.version_field)
     ∷ letters_read f
 

@@ -13,7 +13,7 @@ use Rattle.paper.specs.Cases.{range_of, same_set}
 use Rattle.paper.specs.Graphs.{rises_from, crosses, wrong_edge, wrong_loop, bad_edge, bad_loop}
 use Rattle.paper.specs.Facts.{held, wrong_head, bad_head, wrong_order, bad_order, bad_slot, bad_row, bad_row_at, least_node}
 use Rattle.paper.specs.Records.{without_w, with_w, bad_version, loop_fields, loop_size}
-use Rattle.paper.specs.Files.{u16At, u32_at, trailer_of, bad_letter, bad_letters, bad_cache, bad_numbers, bad_offsets, visits_by, node_at, from_at, to_at, loop_at, fact_end, fact_place, case_of}
+use Rattle.paper.specs.Files.{u16_at, u32_at, trailer_of, bad_letter, bad_letters, bad_cache, bad_numbers, bad_offsets, visits_by, node_at, from_at, to_at, loop_at, fact_end, fact_place, case_of}
 use Rattle.paper.specs.Checked.{paper_file}
 use Rattle.paper.specs.Verdicts.{layout_rules, shape_rules, head_rule, order_rule, row_rules}
 use Rattle.paper.specs.OneFact.{words}
@@ -64,7 +64,7 @@ unfolding sum_to each spaced words loop_fields loop_size visits_by per_loop trai
 paper_written = refl
 
 paper_read : content_of (paper_file 1) ≡ paper_content
-unfolding least_from least some sum_to each spaced loop_fields loop_size visits_by u16At u32_at trailer_of range_of loop_at fact_end fact_place case_of per_loop rows_at content_by
+unfolding least_from least some sum_to each spaced loop_fields loop_size visits_by u16_at u32_at trailer_of range_of loop_at fact_end fact_place case_of per_loop rows_at content_by
 paper_read = refl
 
 -- the same in version 2, with this W
@@ -72,7 +72,7 @@ abbrev limited : ℕ → FileContent
 limited W = content_in with_w 1 paper_edges (1 ∷ 2 ∷ 10 ∷ W ∷ []) paper_heads (one_block 6)
 
 limited_read : content_of (file_of (limited 7)) ≡ limited 7
-unfolding least_from least some sum_to each spaced words loop_fields loop_size visits_by u16At u32_at trailer_of range_of loop_at fact_end fact_place case_of per_loop trailer_in loop_in rows_named case_in loop_bytes trailer_bytes fact_bytes file_of rows_at content_by
+unfolding least_from least some sum_to each spaced words loop_fields loop_size visits_by u16_at u32_at trailer_of range_of loop_at fact_end fact_place case_of per_loop trailer_in loop_in rows_named case_in loop_bytes trailer_bytes fact_bytes file_of rows_at content_by
 limited_read = refl
 
 -- a content, a room, and the number and places of the answer, all 0 where the file is written
@@ -125,5 +125,5 @@ answers_hold = refl
 
 -- the paper's file passes the layout rules
 paper_laid : layout_verdict (paper_file 1) ≡ Accepted
-unfolding least_from least some sum_to each spaced offered set_count in_range range_of same_set rises_from crosses wrong_edge wrong_loop bad_edge bad_loop held wrong_head bad_head wrong_order bad_order bad_slot bad_row bad_row_at least_node bad_version loop_fields loop_size visits_by u16At u32_at trailer_of bad_letter bad_letters bad_cache bad_numbers bad_offsets node_at from_at to_at loop_at fact_end fact_place case_of layout_rules shape_rules head_rule order_rule row_rules content_rules in_turn laid_turn laid_facts
+unfolding least_from least some sum_to each spaced offered set_count in_range range_of same_set rises_from crosses wrong_edge wrong_loop bad_edge bad_loop held wrong_head bad_head wrong_order bad_order bad_slot bad_row bad_row_at least_node bad_version loop_fields loop_size visits_by u16_at u32_at trailer_of bad_letter bad_letters bad_cache bad_numbers bad_offsets node_at from_at to_at loop_at fact_end fact_place case_of layout_rules shape_rules head_rule order_rule row_rules content_rules in_turn laid_turn laid_facts
 paper_laid = refl

@@ -15,7 +15,7 @@ use Rattle.paper.specs.declared.TimeAnswer.{TimeAnswer}
 use Rattle.paper.specs.declared.TimeAnswer.TheVariants.{Time, Refused}
 use Rattle.paper.specs.Answers.{refuse}
 use Rattle.paper.specs.Ceilings.{longest_input}
-use Rattle.paper.specs.Files.{u16At, u32_at}
+use Rattle.paper.specs.Files.{u16_at, u32_at}
 use Rattle.paper.specs.Listings.{bytes, line, refusal_line}
 use Rattle.paper.specs.Times.{file_time_answer}
 use Rattle.paper.proofs.Says.{says_true, says_and, says_le}
@@ -44,7 +44,7 @@ module _ (file costs : List ℕ) (penalty p : ℕ) {a : TimeAnswer} (k : TimePro
   told_as n e = ap time_line (sym e ∙ time_answer_lem file costs penalty p a k)
 
 -- what is read of an input that is whole
-pub read_text : (input : List ℕ) {costs : List ℕ} {penalty i m from : ℕ} → penalty ≡ u32_at input 0 → i ≡ u16At input 4 → m ≡ many_in input → costs ≡ u32s (drop 8 input) m → from ≡ 8 + 4 * m →
+pub read_text : (input : List ℕ) {costs : List ℕ} {penalty i m from : ℕ} → penalty ≡ u32_at input 0 → i ≡ u16_at input 4 → m ≡ many_in input → costs ≡ u32s (drop 8 input) m → from ≡ 8 + 4 * m →
     time_line (file_time_answer (take (length input - from) (drop from input)) costs penalty i) ≡ printed_for input
 unfolding printed_for
 read_text input {costs} {penalty} {i} {m} {from} q j k c f =

@@ -4,13 +4,13 @@ use Rattle.paper.specs.declared.TimeAnswer.{TimeAnswer}
 use Rattle.paper.specs.declared.TimeAnswer.TheVariants.{Time, Refused}
 use Rattle.paper.specs.Answers.{refuse}
 use Rattle.paper.specs.Ceilings.{longest_input}
-use Rattle.paper.specs.Files.{u16At, u32_at}
+use Rattle.paper.specs.Files.{u16_at, u32_at}
 use Rattle.paper.specs.Listings.{bytes, line, refusal_line}
 use Rattle.paper.specs.Times.{file_time_answer}
 use Rattle.frames.specs.Little.{u32s}
 
 abbrev pub many_in : List ℕ → ℕ
-many_in input = u16At input 6
+many_in input = u16_at input 6
 
 abbrev pub file_from : List ℕ → ℕ
 file_from input = 8 + 4 * many_in input
@@ -28,7 +28,7 @@ time_line (Time n) = line (bytes "time ") n
 time_line (Refused r) = refusal_line r
 
 unfoldable pub printed_for : List ℕ → List ℕ
-printed_for input = time_line (file_time_answer (drop (file_from input) input) (u32s (drop 8 input) (many_in input)) (u32_at input 0) (u16At input 4))
+printed_for input = time_line (file_time_answer (drop (file_from input) input) (u32s (drop 8 input) (many_in input)) (u32_at input 0) (u16_at input 4))
 
 -- 28 is what `bounds` prints for an input that is too long
 unfoldable pub cycles_of : List ℕ → List ℕ

@@ -22,7 +22,7 @@ use Rattle.paper.specs.declared.TimeAnswer.TheVariants as TimeAnswers
 use Rattle.paper.specs.declared.Verdict.{Verdict}
 use Rattle.paper.specs.declared.Verdict.TheVariants as Verdicts
 use Rattle.paper.specs.Answers.{refuse, told_find}
-use Rattle.paper.specs.Files.{u8_at, u16At, u32_at}
+use Rattle.paper.specs.Files.{u8_at, u16_at, u32_at}
 use Rattle.paper.specs.Records.{size_of}
 use Rattle.paper.specs.Operations.{step_answer, block_answer, set_answer}
 use Rattle.paper.specs.Traces.{Run, trace_run}
@@ -153,7 +153,7 @@ module _ (r : List ℕ) where
   unfoldable pub step_asked : StepAnswer
   step_asked =
       step_answer (u8_at r 0) (u8_at r Places.step_ways) (record { lines = u16s (drop Places.step_lines r) 8; bits = u8_at r Places.step_bits })
-      (record { 0 = u16At r Places.step_block })
+      (record { 0 = u16_at r Places.step_block })
 
   -- "address u32, line size u32"
   unfoldable pub block_asked : BlockAnswer
@@ -161,7 +161,7 @@ module _ (r : List ℕ) where
 
   -- "block u16, sets u8"
   unfoldable pub set_asked : SetAnswer
-  set_asked = set_answer (record { 0 = u16At r 0 }) (u8_at r Places.set_sets)
+  set_asked = set_answer (record { 0 = u16_at r 0 }) (u8_at r Places.set_sets)
 
   module _ (lent : List ℕ) where
     -- "policy u8, ways u8, sets u8, accesses n u32, marks m u32, then n blocks u16 each, then m bytes"
@@ -181,7 +181,7 @@ module _ (r : List ℕ) where
     check_asked = verdict file (length numbers)
 
     unfoldable pub numbers_after : List ℕ
-    numbers_after = lent_after file (u16At r 0) numbers check_asked
+    numbers_after = lent_after file (u16_at r 0) numbers check_asked
 
     -- "scope u16, block u16, file bytes n u32, numbers m u32, then n bytes, then m numbers u16 each"
     abbrev pub file_searched : List ℕ
@@ -192,7 +192,7 @@ module _ (r : List ℕ) where
 
     -- A finder's answer and the rows that it leaves are promised by a relation: these two are what is asked for. (They are the only two: `find_asked_once` in crates/answers.)
     abbrev pub FindAsked : FindAnswer → List ℕ → Type 0
-    FindAsked answer after = FindOutcome file_searched (u16At r 0) (u16At r Places.find_block) rows_lent (told_find answer) after
+    FindAsked answer after = FindOutcome file_searched (u16_at r 0) (u16_at r Places.find_block) rows_lent (told_find answer) after
 
     -- "file bytes n u32, lent bytes m u32, numbers d u32, then n bytes, then m bytes, then d numbers u64 each"
     unfoldable pub salvage_asked : SalvageLeft
@@ -305,4 +305,4 @@ time_frame a = front 10 Places.time_width (time_head a)
 unfoldable pub time_asked : List ℕ → List ℕ → TimeAnswer
 time_asked r lent =
     let n = u32_at r Places.time_file in
-    file_time_answer (take n lent) (u32s (drop n lent) (u32_at r Places.time_costs)) (u32_at r Places.time_penalty) (u16At r 0)
+    file_time_answer (take n lent) (u32s (drop n lent) (u32_at r Places.time_costs)) (u32_at r Places.time_penalty) (u16_at r 0)

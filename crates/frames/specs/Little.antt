@@ -1,7 +1,7 @@
 -- docs/PIPE.md: "All numbers are little-endian."
 use Rattle.std.specs.Prelude.{ℕ, zero, suc, ◌+◌, ◌*◌, ◌/◌, ◌%◌, List, [], ◌∷◌, ◌++◌}
 use Rattle.paper.specs.Lists.{table}
-use Rattle.paper.specs.Files.{u16At, u32_at}
+use Rattle.paper.specs.Files.{u16_at, u32_at}
 
 -- The low bytes of x, width of them and the least first.
 unfoldable pub little : ℕ → ℕ → List ℕ
@@ -13,15 +13,15 @@ unfoldable pub littles : ℕ → List ℕ → List ℕ
 littles width [] = []
 littles width (x ∷ xs) = little width x ++ littles width xs
 
-abbrev pub u64At : List ℕ → ℕ → ℕ
-u64At l p = u32_at l p + 4294967296 * u32_at l (p + 4)
+abbrev pub u64_at : List ℕ → ℕ → ℕ
+u64_at l p = u32_at l p + 4294967296 * u32_at l (p + 4)
 
 -- The first n numbers that stand in the bytes, each u16, each u32, and each u64.
 abbrev pub u16s : List ℕ → ℕ → List ℕ
-u16s l n = table (λ i. u16At l (2 * i)) n
+u16s l n = table (λ i. u16_at l (2 * i)) n
 
 abbrev pub u32s : List ℕ → ℕ → List ℕ
 u32s l n = table (λ i. u32_at l (4 * i)) n
 
 abbrev pub u64s : List ℕ → ℕ → List ℕ
-u64s l n = table (λ i. u64At l (8 * i)) n
+u64s l n = table (λ i. u64_at l (8 * i)) n

@@ -1,7 +1,7 @@
 // Little-endian numbers, read from bytes and put into bytes.
 ghost use Rattle.std.specs.Prelude.{◌≡◌, ◌+◌, ◌*◌, ◌≤◌, length, drop};
 ghost use Rattle.puts.specs.Put.{Put};
-ghost use Rattle.frames.specs.Little.{little, littles, u64At, u16s, u32s, u64s};
+ghost use Rattle.frames.specs.Little.{little, littles, u64_at, u16s, u32s, u64s};
 
 // Puts the low bytes of a number, width of them, at a place, and answers the place after them.
 pub fn put(out: &mut [u8], at: usize, width: usize, x: u64) -> usize
@@ -31,7 +31,7 @@ fn put_u16(out: &mut [u8], at: usize, x: u16) -> usize
 
 pub fn u64_at(bytes: &[u8], p: usize) -> u64
     requires { p + 8 ≤ length bytes.now }
-    ensures { result ≡ u64At bytes.now p }
+    ensures { result ≡ u64_at bytes.now p }
 {
     let low = layout::u32_at(bytes, p) as u64;
     let high = layout::u32_at(bytes, p + 4) as u64;

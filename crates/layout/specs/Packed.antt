@@ -2,11 +2,11 @@
 use Rattle.std.specs.Prelude.{ℕ, zero, suc, ◌+◌, ◌*◌, ◌<◌, ◌≡◌, List}
 use Rattle.paper.specs.Cases.{Row}
 use Rattle.paper.specs.Records.{bits16}
-use Rattle.paper.specs.Files.{u16At}
+use Rattle.paper.specs.Files.{u16_at}
 
 -- number i of those that stand from p on
 abbrev pub word_at : List ℕ → ℕ → ℕ → ℕ
-word_at f p i = u16At f (p + bits16 * i)
+word_at f p i = u16_at f (p + bits16 * i)
 
 -- n numbers as one, the first the lowest
 unfoldable pub packed : (ℕ → ℕ) → ℕ → ℕ

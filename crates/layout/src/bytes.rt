@@ -11,7 +11,7 @@ fn wide(x: u8) -> u16
 
 pub fn u16_at(file: &[u8], p: usize) -> u16
     requires { p + 2 ≤ length file.now }
-    ensures { result ≡ Files.u16At file.now p }
+    ensures { result ≡ Files.u16_at file.now p }
 {
     wide(file[p]) + 256 * wide(file[p + 1])
 }

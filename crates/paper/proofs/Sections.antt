@@ -6,7 +6,7 @@ use mathlib.Core.List.{List, [], ◌∷◌}
 use lib.ListN.{length, get_or}
 use Rattle.paper.specs.Lists.{spaced}
 use Rattle.paper.specs.Demands.{Bytes}
-use Rattle.paper.specs.Files.{u8_at, u16At, u32_at}
+use Rattle.paper.specs.Files.{u8_at, u16_at, u32_at}
 use Rattle.paper.specs.OneFact.{words}
 use Rattle.paper.specs.Writing.{words_at}
 use Rattle.paper.proofs.Parts.{Stands, stands_move, stands_empty, stands_cons}
@@ -18,8 +18,8 @@ length_words [] = refl
 length_words (x ∷ xs) = omega (arith, length_words xs)
 
 -- Reading undoes writing, for numbers of any size: x % 256 + 256 * (x / 256) is x.
-pub word_is : (f : List ℕ) (p : ℕ) (xs : List ℕ) → Stands f p (words xs) → (i : ℕ) → i < length xs → u16At f (p + 2 * i) ≡ get_or xs i 0
-unfolding words u16At
+pub word_is : (f : List ℕ) (p : ℕ) (xs : List ℕ) → Stands f p (words xs) → (i : ℕ) → i < length xs → u16_at f (p + 2 * i) ≡ get_or xs i 0
+unfolding words u16_at
 word_is f p [] h i l = absurd (omega arith)
 word_is f p (x ∷ xs) h zero l =
     let a : get_or f (p + 2 * 0) 0 ≡ x % 256 = ap (λ (k : ℕ). get_or f k 0) (omega arith) ∙ h.at 0 (omega arith) in
@@ -34,8 +34,8 @@ module _ (f g : List ℕ) (p q : ℕ) (s : List ℕ) (a : Stands f p s) (b : Sta
   pub u8_same : (i : ℕ) → i < length s → u8_at f (p + i) ≡ u8_at g (q + i)
   u8_same i l = a.at i l ∙ sym (b.at i l)
 
-  pub u16_same : (i : ℕ) → i + 2 ≤ length s → u16At f (p + i) ≡ u16At g (q + i)
-  unfolding u16At
+  pub u16_same : (i : ℕ) → i + 2 ≤ length s → u16_at f (p + i) ≡ u16_at g (q + i)
+  unfolding u16_at
   u16_same i l =
       let c : u8_at f (p + i) ≡ u8_at g (q + i) = u8_same i (omega arith) in
       let d : u8_at f (p + i + 1) ≡ u8_at g (q + i + 1)
@@ -45,14 +45,14 @@ module _ (f g : List ℕ) (p q : ℕ) (s : List ℕ) (a : Stands f p s) (b : Sta
   pub u32_same : (i : ℕ) → i + 4 ≤ length s → u32_at f (p + i) ≡ u32_at g (q + i)
   unfolding u32_at
   u32_same i l =
-      let c : u16At f (p + i) ≡ u16At g (q + i) = u16_same i (omega arith) in
-      let d : u16At f (p + i + 2) ≡ u16At g (q + i + 2)
-      = ap (λ (k : ℕ). u16At f k) (omega arith) ∙ u16_same (i + 2) (omega arith) ∙ ap (λ (k : ℕ). u16At g k) (omega arith) in
+      let c : u16_at f (p + i) ≡ u16_at g (q + i) = u16_same i (omega arith) in
+      let d : u16_at f (p + i + 2) ≡ u16_at g (q + i + 2)
+      = ap (λ (k : ℕ). u16_at f k) (omega arith) ∙ u16_same (i + 2) (omega arith) ∙ ap (λ (k : ℕ). u16_at g k) (omega arith) in
       rw (c, d) refl
 
 -- Writing undoes reading, past the end of the file too, for there zeros are read.
 pub words_stand : (f : List ℕ) → Bytes f → (p n : ℕ) → Stands f p (words (words_at f p n))
-unfolding spaced words u16At
+unfolding spaced words u16_at
 words_stand f b p zero = stands_empty f p
 words_stand f b p (suc n) =
     let low : u8_at f p < 256 = below_at 256 f (omega arith) b p in

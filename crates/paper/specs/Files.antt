@@ -12,11 +12,11 @@ use Rattle.paper.specs.Records as Records
 abbrev pub u8_at : List ℕ → ℕ → ℕ
 u8_at f p = get_or f p 0
 
-unfoldable pub u16At : List ℕ → ℕ → ℕ
-u16At f p = u8_at f p + 256 * u8_at f (p + 1)
+unfoldable pub u16_at : List ℕ → ℕ → ℕ
+u16_at f p = u8_at f p + 256 * u8_at f (p + 1)
 
 unfoldable pub u32_at : List ℕ → ℕ → ℕ
-u32_at f p = u16At f p + 65536 * u16At f (p + 2)
+u32_at f p = u16_at f p + 65536 * u16_at f (p + 2)
 
 -- "The last 32 bytes point back": where they begin.
 abbrev pub end_at : List ℕ → ℕ
@@ -26,10 +26,10 @@ end_at f = length f - Records.trailer_size
 unfoldable pub trailer_of : List ℕ → Trailer
 trailer_of f =
     record {
-      nodes = u16At f (end_at f + Records.nodes_field);
-      edges = u16At f (end_at f + Records.edges_field);
-      loops = u16At f (end_at f + Records.loops_field);
-      facts = u16At f (end_at f + Records.facts_field);
+      nodes = u16_at f (end_at f + Records.nodes_field);
+      edges = u16_at f (end_at f + Records.edges_field);
+      loops = u16_at f (end_at f + Records.loops_field);
+      facts = u16_at f (end_at f + Records.facts_field);
       policy = u8_at f (end_at f + Records.policy_field);
       ways = u8_at f (end_at f + Records.ways_field);
       sets = u8_at f (end_at f + Records.sets_field);
@@ -86,7 +86,7 @@ abbrev pub slot_place : ℕ → ℕ → ℕ
 slot_place p i = p + Records.slots_field + Records.bits16 * i
 
 abbrev pub row_at : List ℕ → ℕ → Row
-row_at f p = record { number = u16At f p; slot = λ i. u16At f (slot_place p i) }
+row_at f p = record { number = u16_at f p; slot = λ i. u16_at f (slot_place p i) }
 
 -- where the head of the fact that stands at p ends, and its row j stands
 abbrev pub head_end : ℕ → ℕ
@@ -99,14 +99,14 @@ row_place p j = head_end p + Records.row_size * j
 abbrev pub fact_at : List ℕ → ℕ → Fact
 fact_at f p =
     record {
-      scope = u16At f p;
-      block = u16At f (p + Records.block_field);
-      limit = u16At f (p + Records.limit_field);
+      scope = u16_at f p;
+      block = u16_at f (p + Records.block_field);
+      limit = u16_at f (p + Records.limit_field);
       row = λ j. row_at f (row_place p j);
     }
 
 unfoldable pub node_at : List ℕ → ℕ → ℕ
-node_at f v = u16At f (node_place v)
+node_at f v = u16_at f (node_place v)
 
 -- "Version 1 is read as without W"; else it is what is read as W.
 unfoldable pub visits_by : ℕ → ℕ → ℕ
@@ -114,16 +114,16 @@ visits_by version W = cond (eqb version Records.without_w) unlimited W
 
 module _ (f : List ℕ) (trailer : Trailer) where
   unfoldable pub from_at : ℕ → ℕ
-  from_at i = u16At f (edge_place trailer i)
+  from_at i = u16_at f (edge_place trailer i)
 
   unfoldable pub to_at : ℕ → ℕ
-  to_at i = u16At f (edge_place trailer i + Records.to_field)
+  to_at i = u16_at f (edge_place trailer i + Records.to_field)
 
   unfoldable pub loop_at : ℕ → Loop
   loop_at j =
       record {
-        first = u16At f (loop_place trailer j);
-        last = u16At f (loop_place trailer j + Records.last_field);
+        first = u16_at f (loop_place trailer j);
+        last = u16_at f (loop_place trailer j + Records.last_field);
         bound = u32_at f (loop_place trailer j + Records.bound_field);
         visits = visits_by trailer.version (u32_at f (loop_place trailer j + Records.visits_field));
       }

@@ -11,7 +11,7 @@ use Rattle.paper.specs.Lists.{sum_to, each, spaced, part}
 use Rattle.paper.specs.Cases.{Row, Fact, Case, size, scope_of}
 use Rattle.paper.specs.Facts.{none_previous, previous_of}
 use Rattle.paper.specs.Records as Records
-use Rattle.paper.specs.Files.{u16At, end_at, trailer_of, letters, bad_cache, bad_numbers, node_place, edges_at, loops_at, facts_at, head_end, visits_by, loop_at, fact_end, fact_place, case_of, read_case}
+use Rattle.paper.specs.Files.{u16_at, end_at, trailer_of, letters, bad_cache, bad_numbers, node_place, edges_at, loops_at, facts_at, head_end, visits_by, loop_at, fact_end, fact_place, case_of, read_case}
 use Rattle.paper.specs.Rules.{rule}
 use Rattle.paper.specs.Verdicts.{layout_rules, shape_rules, head_rule, order_rule, row_rules}
 use Rattle.paper.specs.OneFact.{words, head_bytes}
@@ -155,7 +155,7 @@ module _ (c : FileContent) where
 
 -- n 16-bit numbers of the file from p on
 abbrev pub words_at : List ℕ → ℕ → ℕ → List ℕ
-words_at f p n = spaced (u16At f) Records.bits16 p n
+words_at f p n = spaced (u16_at f) Records.bits16 p n
 
 module _ (f : List ℕ) (t : Trailer) where
   -- how many rows fact i has: "one row for each node of the scope"

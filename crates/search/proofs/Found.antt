@@ -10,7 +10,7 @@ use lib.ListN.{length, get_or, drop, length-append, length-drop, get_or-append}
 use lib.Seq.{sets, sets-eq, take_at, drop-append-add, drop-drop, get_or-append-add}
 use Rattle.paper.specs.Lists.{table, each}
 use Rattle.paper.specs.Cases.{Fact, Case, size, scope_of}
-use Rattle.paper.specs.Files.{u16At, row_at}
+use Rattle.paper.specs.Files.{u16_at, row_at}
 use Rattle.paper.specs.OneFact.{words}
 use Rattle.paper.specs.Writing.{row_from}
 use Rattle.paper.specs.Finding.{rows_length}
@@ -74,9 +74,9 @@ module _ (g : ℕ → List ℕ) (long : (j : ℕ) → length (g j) ≡ 8) where
           slot = λ k l. let z : 8 * j + 1 + k ≡ 8 * j + suc k = omega arith in ap (λ (q : ℕ). get_or (each g n) q 0) z ∙ each_at n j (suc k) h (omega arith);
         }
 
-    word : (p i : ℕ) → p ≡ 0 + 2 * (8 * j + i) → i < 8 → u16At (words (each g n)) p ≡ get_or (g j) i 0
+    word : (p i : ℕ) → p ≡ 0 + 2 * (8 * j + i) → i < 8 → u16_at (words (each g n)) p ≡ get_or (g j) i 0
     word p i q l =
-        ap (u16At (words (each g n))) q ∙ word_is (words (each g n)) 0 (each g n) (stands_self (words (each g n))) (8 * j + i) (omega (arith, each_length n)) ∙ each_at n j i h l
+        ap (u16_at (words (each g n))) q ∙ word_is (words (each g n)) 0 (each g n) (stands_self (words (each g n))) (8 * j + i) (omega (arith, each_length n)) ∙ each_at n j i h l
 
     pub row_written : Same (row_by (g j)) (row_at (words (each g n)) (16 * j))
     row_written =

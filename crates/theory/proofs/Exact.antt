@@ -12,7 +12,7 @@ use Rattle.paper.specs.declared.Loop.{Loop}
 use Rattle.paper.specs.Machines.{none}
 use Rattle.paper.specs.Cases.{Row, Fact, Case, inside, size, scope_of}
 use Rattle.paper.specs.Facts.{bad_head, unfetched}
-use Rattle.paper.specs.Files.{u16At, node_at, row_at, case_of, read_case}
+use Rattle.paper.specs.Files.{u16_at, node_at, row_at, case_of, read_case}
 use Rattle.paper.specs.Rules.{Passes}
 use Rattle.paper.specs.Verdicts.{evidence_rules, whole_file_rules}
 use Rattle.paper.specs.Demands.{Bytes, Gathered, FewGathered, with_rows, Evidence, EvidenceExact}
@@ -110,7 +110,7 @@ byte_at (x ∷ f) h zero = h x (Memᴰ.head refl)
 byte_at (x ∷ f) h (suc p) = byte_at f (λ c m. h c (Memᴰ.tail m)) p
 
 pub block_small : (f : List ℕ) → ((p : ℕ) → get_or f p 0 < 256) → (v : ℕ) → node_at f v < 65536
-unfolding node_at u16At
+unfolding node_at u16_at
 block_small f h v = omega (arith, h (2 * v), h (2 * v + 1))
 
 -- The same of a file that passes 1 to 10 and 26 and an otherwise sound fact, with rows in a list of their own.

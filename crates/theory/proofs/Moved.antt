@@ -13,7 +13,7 @@ use Rattle.paper.specs.Lists.{part}
 use Rattle.paper.specs.Machines.{none}
 use Rattle.paper.specs.Cases.{size, scope_of}
 use Rattle.paper.specs.Facts.{previous_of, bad_order}
-use Rattle.paper.specs.Files.{u16At, end_at, fact_at, fact_end, case_of}
+use Rattle.paper.specs.Files.{u16_at, end_at, fact_at, fact_end, case_of}
 use Rattle.paper.specs.Known.{Shaped}
 use Rattle.paper.specs.Salvaging.{fact_part}
 use Rattle.paper.proofs.FactLaws.{head_sound, evidence_law}
@@ -38,11 +38,11 @@ pub record Beside (f : List ℕ) (t : Trailer) (g : List ℕ) (u : Trailer) : Ty
   pub some_node : 1 ≤ t.nodes
 
 module _ (f : List ℕ) (t : Trailer) (g : List ℕ) (u : Trailer) (b : Beside f t g u) (p q : ℕ) (here : Stands g q (fact_part f t p)) where
-  word : (i k l : ℕ) → k ≡ p + i → l ≡ q + i → p + i + 2 ≤ fact_end f t p → u16At f k ≡ u16At g l
+  word : (i k l : ℕ) → k ≡ p + i → l ≡ q + i → p + i + 2 ≤ fact_end f t p → u16_at f k ≡ u16_at g l
   word i k l a c h =
-      ap (λ (n : ℕ). u16At f n) a
+      ap (λ (n : ℕ). u16_at f n) a
       ∙ u16_same f g p q (fact_part f t p) (part_stands f p (span f t p)) here i (omega (arith, length_fact f t p))
-      ∙ ap (λ (n : ℕ). u16At g n) (sym c)
+      ∙ ap (λ (n : ℕ). u16_at g n) (sym c)
 
   same_fact : SameFact (size (scope_of (case_of f t) (fact_at f p))) (fact_at f p) (fact_at g q)
   unfolding fact_end case_of

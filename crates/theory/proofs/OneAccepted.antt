@@ -14,7 +14,7 @@ use Rattle.paper.specs.declared.Verdict.TheVariants.{Accepted}
 use Rattle.paper.specs.Machines.{none}
 use Rattle.paper.specs.Cases.{Fact, size, range_of, scope_of, fetches}
 use Rattle.paper.specs.Facts.{none_previous, wrong_order, bad_head, bad_order, unfetched}
-use Rattle.paper.specs.Files.{u16At, end_at, trailer_of, facts_at, loop_at, fact_end, fact_place, case_of, read_case}
+use Rattle.paper.specs.Files.{u16_at, end_at, trailer_of, facts_at, loop_at, fact_end, fact_place, case_of, read_case}
 use Rattle.paper.specs.Known.{Shaped}
 use Rattle.paper.specs.Rules.{rule, Passes}
 use Rattle.paper.specs.Verdicts.{head_rule, order_rule, fetch_rule, evidence_rules, body_rules, turn_rules, turns_from, fact_rules, whole_file_rules, file_verdict, verdict}
@@ -59,14 +59,14 @@ module _ (f : List ℕ) (t : Fact) (rows : List ℕ) (kept : KeptLayout f (trail
   graph = same_graph f bytes 1 kept
 
   -- The fact that it holds has t's head, and these rows as far as they go.
-  head_word : (i p : ℕ) → i < 3 → p ≡ place + 2 * i → get_or (t.scope ∷ t.block ∷ t.limit ∷ []) i 0 ≡ u16At file p
-  head_word i p l e = sym (ap (λ (q : ℕ). u16At file q) e ∙ word_is file place (t.scope ∷ t.block ∷ t.limit ∷ []) head_part i l)
+  head_word : (i p : ℕ) → i < 3 → p ≡ place + 2 * i → get_or (t.scope ∷ t.block ∷ t.limit ∷ []) i 0 ≡ u16_at file p
+  head_word i p l e = sym (ap (λ (q : ℕ). u16_at file q) e ∙ word_is file place (t.scope ∷ t.block ∷ t.limit ∷ []) head_part i l)
 
-  row_word : (p q : ℕ) → q ≡ place + 6 + p → p + 2 ≤ length rows → u16At rows p ≡ u16At file q
+  row_word : (p q : ℕ) → q ≡ place + 6 + p → p + 2 ≤ length rows → u16_at rows p ≡ u16_at file q
   row_word p q e l =
-      ap (λ (r : ℕ). u16At rows r) (omega arith)
+      ap (λ (r : ℕ). u16_at rows r) (omega arith)
       ∙ u16_same rows file 0 (place + 6) rows (stands_self rows) rows_part p l
-      ∙ ap (λ (r : ℕ). u16At file r) (sym e)
+      ∙ ap (λ (r : ℕ). u16_at file r) (sym e)
 
   pub same_fact : (n : ℕ) → 16 * n ≤ length rows → SameFact n (with_rows (read_case f) t rows) ((case_of file one).fact 0)
   unfolding case_of fact_place

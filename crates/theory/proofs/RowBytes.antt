@@ -7,7 +7,7 @@ use mathlib.Core.List.Memᴰ
 use mathlib.Core.List.{List, [], ◌∷◌}
 use lib.ListN.{length}
 use Rattle.paper.specs.Cases.{Row}
-use Rattle.paper.specs.Files.{u16At, row_at}
+use Rattle.paper.specs.Files.{u16_at, row_at}
 use Rattle.paper.specs.Demands.{Bytes}
 use Rattle.theory.proofs.SameRow.{Same}
 
@@ -29,8 +29,8 @@ small_bytes w (suc n) h c m =
     (λ m'. ⊎_elim (λ e. omega (arith, h 0 (omega arith))) (λ m''. small_bytes (λ i. w (suc i)) n (λ i l. h (suc i) (omega arith)) c m'') (Memᴰ.cases_cons m'))
     (Memᴰ.cases_cons m)
 
-u16_bytes : (w : ℕ → ℕ) (n i : ℕ) → i < n → u16At (bytes_of w n) (2 * i) ≡ w i
-unfolding bytes_of u16At
+u16_bytes : (w : ℕ → ℕ) (n i : ℕ) → i < n → u16_at (bytes_of w n) (2 * i) ≡ w i
+unfolding bytes_of u16_at
 u16_bytes w zero i h = absurd (omega arith)
 u16_bytes w (suc n) zero h = omega arith
 u16_bytes w (suc n) (suc i) h =
@@ -62,7 +62,7 @@ module _ (rows : ℕ → Row) (n : ℕ) where
       go j zero h l = a j h
       go j (suc k) h l = b j k h (omega arith)
 
-  word_at : (j i : ℕ) → j < n → i < 8 → u16At written (2 * (8 * j + i)) ≡ word_in (rows j) i
+  word_at : (j i : ℕ) → j < n → i < 8 → u16_at written (2 * (8 * j + i)) ≡ word_in (rows j) i
   unfolding written word_of
   word_at j i h l =
       let p : (8 * j + i) / 8 ≡ j = omega arith in
@@ -74,6 +74,6 @@ module _ (rows : ℕ → Row) (n : ℕ) where
   unfolding word_in
   written_row j h =
       record {
-        number = let p : 16 * j ≡ 2 * (8 * j + 0) = omega arith in ap (u16At written) p ∙ word_at j 0 h (omega arith);
-        slot = λ k l. let p : 16 * j + 2 + 2 * k ≡ 2 * (8 * j + suc k) = omega arith in ap (u16At written) p ∙ word_at j (suc k) h (omega arith);
+        number = let p : 16 * j ≡ 2 * (8 * j + 0) = omega arith in ap (u16_at written) p ∙ word_at j 0 h (omega arith);
+        slot = λ k l. let p : 16 * j + 2 + 2 * k ≡ 2 * (8 * j + suc k) = omega arith in ap (u16_at written) p ∙ word_at j (suc k) h (omega arith);
       }

@@ -9,7 +9,7 @@ use lib.Seq.{get_or-take, ext_get_or}
 use borrow.Author.Tests.{le-ltb, eq-eqb}
 use Rattle.paper.specs.declared.Trailer.{Trailer}
 use Rattle.paper.specs.declared.Verdict.TheVariants.{Accepted}
-use Rattle.paper.specs.Files.{u8_at, u16At, u32_at, end_at, trailer_of, bad_letter, bad_letters, bad_numbers, bad_offsets, edges_at, loop_place, facts_at, node_at, from_at, to_at, loop_at, case_of, read_case}
+use Rattle.paper.specs.Files.{u8_at, u16_at, u32_at, end_at, trailer_of, bad_letter, bad_letters, bad_numbers, bad_offsets, edges_at, loop_place, facts_at, node_at, from_at, to_at, loop_at, case_of, read_case}
 use Rattle.paper.specs.Rules.{Passes}
 use Rattle.paper.specs.Verdicts.{graph_rules, fact_rules, whole_file_rules, file_verdict}
 use Rattle.paper.specs.OneFact.{words, graph_bytes, trailer_with, with_facts}
@@ -115,7 +115,7 @@ module _ (f facts : List ℕ) (n : ℕ) (kept : KeptLayout f (trailer_of f)) whe
   back : Stands file (end_at file + 24) (drop 24 last)
   back = stands_move file _ (omega (arith, length_words (n ∷ []))) (stands_right file (end_at file + 22) (words (n ∷ [])) _ after_front)
 
-  front_word : (i : ℕ) → i + 2 ≤ 22 → u16At file (end_at file + i) ≡ u16At f (end_at f + i)
+  front_word : (i : ℕ) → i + 2 ≤ 22 → u16_at file (end_at file + i) ≡ u16_at f (end_at f + i)
   front_word i l =
       u16_same file f (end_at file) (end_at f) (take 22 last) front (stands_take f (end_at f) 22 last last_part) i (omega (arith, length-take 22 last, last_length))
 
@@ -129,9 +129,9 @@ module _ (f facts : List ℕ) (n : ℕ) (kept : KeptLayout f (trailer_of f)) whe
       ∙ u8_same file f (end_at file + 24) (end_at f + 24) (drop 24 last) back (stands_drop f (end_at f) 24 last last_part) (i - 24) (omega (arith, length-drop 24 last, last_length))
       ∙ ap (λ (p : ℕ). u8_at f p) (omega arith)
 
-  number_written : u16At file (end_at file + 22) ≡ n
+  number_written : u16_at file (end_at file + 22) ≡ n
   number_written =
-      ap (λ (p : ℕ). u16At file p) (omega arith)
+      ap (λ (p : ℕ). u16_at file p) (omega arith)
       ∙ word_is file (end_at file + 22) (n ∷ []) (stands_left file (end_at file + 22) (words (n ∷ [])) _ after_front) 0 (omega arith)
 
   version : u8_at file (end_at file + 27) ≡ u8_at f (end_at f + 27)
@@ -195,11 +195,11 @@ module _ (f facts : List ℕ) (n : ℕ) (kept : KeptLayout f (trailer_of f)) whe
         offsets = offsets_kept;
       }
 
-  graph_word : (p : ℕ) → p + 2 ≤ place → u16At f p ≡ u16At file p
+  graph_word : (p : ℕ) → p + 2 ≤ place → u16_at f p ≡ u16_at file p
   graph_word p l =
-      ap (λ (q : ℕ). u16At f q) (omega arith)
+      ap (λ (q : ℕ). u16_at f q) (omega arith)
       ∙ u16_same f file 0 0 (graph_bytes f) (stands_take f 0 place f (stands_self f)) graph_part p (omega (arith, graph_length))
-      ∙ ap (λ (q : ℕ). u16At file q) (omega arith)
+      ∙ ap (λ (q : ℕ). u16_at file q) (omega arith)
 
   graph_double : (p : ℕ) → p + 4 ≤ place → u32_at f p ≡ u32_at file p
   graph_double p l =

@@ -4,7 +4,7 @@ use Rattle.paper.specs.declared.Verdict.{Verdict}
 use Rattle.paper.specs.declared.Verdict.TheVariants.{Accepted, Refused}
 use Rattle.paper.specs.AllWays.{misses_with, ways_verdict}
 use Rattle.paper.specs.Answers.{refuse}
-use Rattle.paper.specs.Files.{u16At}
+use Rattle.paper.specs.Files.{u16_at}
 use Rattle.paper.specs.Listings.{bytes, lines_from, refusal_line}
 use Rattle.frames.specs.Little.{u16s}
 use Rattle.frames.specs.Room.{accesses}
@@ -17,7 +17,7 @@ unfoldable pub whole : ℕ → Bool
 whole n = leb 2 n && (leb n longest_input && eqb (n % 2) 0)
 
 abbrev pub sets_in : List ℕ → ℕ
-sets_in input = u16At input 0
+sets_in input = u16_at input 0
 
 abbrev pub trace_in : List ℕ → List ℕ
 trace_in input = u16s (drop 2 input) (length input / 2 - 1)

@@ -1,5 +1,4 @@
 -- A node that does not fetch b is never at fault; of one that does, its row's number tells.
-use borrow.Author.Rules.{rules}
 use mathlib.Core.Path.{refl}
 use Rattle.paper.specs.Facts.{bad_many_at}
 use Rattle.evidence.proofs.bad_many.Goals as goal

@@ -1,9 +1,8 @@
 -- The loop stops at the least node at fault; before it none was (`Passed`).
 use Prim.Native.Nat.{◌-◌}
-use borrow.Author.Rules.{rules}
 use Rattle.paper.specs.Files.{case_of}
 use Rattle.paper.specs.Facts.{bad_many_at}
-use Rattle.paper.proofs.Least.{Passed, passed_start, passed_more, least_found, least_end}
+use Rattle.paper.proofs.Least.{Passed}
 use Rattle.evidence.specs.Stands.{fact_of}
 use Rattle.evidence.proofs.bad_manys.Given as goal
 

@@ -1,6 +1,5 @@
 -- `evidence_rules` answers by the first of the three loops that stops before its end: n is where the nodes were counted, r where the rows were looked at, s the edges, m the rows 8.
 use mathlib.Core.Path.{refl, ◌∙◌, ap}
-use borrow.Author.Rules.{rules}
 use Rattle.paper.specs.declared.Verdict.TheVariants.{Refused}
 use Rattle.evidence.proofs.Scopes.{rows_sound, edge_bad, evidence_16, evidence_edge, evidence_18, evidence_kept}
 use Rattle.evidence.proofs.evidence_rules.Goals as goal

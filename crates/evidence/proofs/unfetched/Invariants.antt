@@ -1,11 +1,9 @@
 -- The loop stops at a node that fetches b; where it ends, none did (`Passed`).
 use Prim.Native.Nat.{◌-◌}
-use borrow.Author.Rules.{rules}
 use Rattle.paper.specs.Cases.{fetches}
 use Rattle.paper.specs.Files.{case_of}
-use Rattle.paper.proofs.Least.{Passed, passed_start, passed_more, some_found, some_end}
+use Rattle.paper.proofs.Least.{Passed}
 use Rattle.evidence.specs.Stands.{fact_of}
-use Rattle.evidence.proofs.Scopes.{unfetched_is}
 use Rattle.evidence.proofs.unfetched.Given as goal
 
 abbrev pub invariant-loop-j : goal.invariant-loop-j

@@ -3,7 +3,7 @@ use Prim.Native.Nat.{◌≤◌}
 use native.Mathlib.Omega.{arith}
 use mathlib.Core.Path.{◌≡◌, ap}
 use borrow.Author.Rules.{rules}
-use Rattle.paper.specs.Files.{u16At, fact_at, case_of}
+use Rattle.paper.specs.Files.{u16_at, fact_at, case_of}
 use Rattle.formulas.specs.Largest.{largest_visits}
 use Rattle.charge.specs.Tables.{head_of}
 use Rattle.charge.specs.declared.heads.Head.{Head}
@@ -11,7 +11,7 @@ use Rattle.charge.proofs.Entries.{entries_low}
 use Rattle.charge.proofs.FactCosts.{scope_low, cost_is, lowered_is}
 use Rattle.charge.proofs.facts.charge_fact.Goals as goal
 
-scope : (c : goal.After-head_at-h) → c.head_at-h.result.scope ≡ u16At c.args.file.now c.args.p
+scope : (c : goal.After-head_at-h) → c.head_at-h.result.scope ≡ u16_at c.args.file.now c.args.p
 unfolding head_of
 scope c = ap (λ (h : Head). h.scope) c.head_at-h.ensures
 

@@ -1,12 +1,9 @@
 -- Slots before n are not free by right, so a look from n on is a look at all seven.
-use Prim.Native.Nat.{◌-◌, ◌≤◌}
 use borrow.Author.Rules.{rules}
 use borrow.Author.Tests.{eq-eqb, ne_eqb}
 use mathlib.Core.Path.{refl, ap}
 use mathlib.Core.Bool.{not}
-use Rattle.paper.specs.Files.{row_at}
-use Rattle.paper.proofs.Least.{Passed, passed_more, some_found, some_end}
-use Rattle.evidence.specs.RowParts.{unfree}
+use Rattle.paper.proofs.Least.{passed_more, some_found, some_end}
 use Rattle.evidence.proofs.Slots.{unfree_before, unfree_at}
 use Rattle.evidence.proofs.rows.bad_rest.Goals as goal
 

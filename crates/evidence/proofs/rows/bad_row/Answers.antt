@@ -1,7 +1,6 @@
 -- One branch for each thing that a row's number can be, with the part of the test that is left (OneRow).
 use mathlib.Core.Path.{◌∙◌}
 use native.Mathlib.Omega.{arith}
-use borrow.Author.Rules.{rules}
 use Rattle.evidence.proofs.OneRow.{row_high, row_other, row_long, row_block, row_set}
 use Rattle.evidence.proofs.Scopes.{row_is, limit_low, limit_high}
 use Rattle.evidence.proofs.rows.bad_row.Goals as goal

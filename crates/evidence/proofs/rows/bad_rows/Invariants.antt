@@ -1,11 +1,9 @@
 -- `evidence::rows::bad_rows`: the first bad row stops the loop; before it none was bad.
 use Prim.Native.Nat.{◌-◌}
-use borrow.Author.Rules.{rules}
 use Rattle.paper.specs.Files.{case_of}
 use Rattle.paper.specs.Facts.{bad_row_at}
-use Rattle.paper.proofs.Least.{Passed, passed_start, passed_more, least_found, least_end}
+use Rattle.paper.proofs.Least.{Passed}
 use Rattle.evidence.specs.Stands.{fact_of}
-use Rattle.evidence.proofs.Scopes.{made_ready}
 use Rattle.evidence.proofs.rows.bad_rows.Given as goal
 
 abbrev pub invariant-loop-j : goal.invariant-loop-j

@@ -1,6 +1,5 @@
 -- `evidence::rows::elsewhere`: what is ready says where x lives, and the head where the fact's block does.
 use mathlib.Core.Path.{refl}
-use borrow.Author.Rules.{rules}
 use Rattle.evidence.proofs.Scopes.{home_of}
 use Rattle.evidence.proofs.rows.elsewhere.Goals as goal
 

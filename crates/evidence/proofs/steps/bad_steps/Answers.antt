@@ -1,10 +1,8 @@
 -- `evidence::steps::bad_steps`: edges before the first one looked at come from nodes before the scope, those after the last from nodes after it.
-use Prim.Native.Nat.{◌-◌}
 use native.Mathlib.Omega.{arith}
-use borrow.Author.Rules.{rules}
 use Rattle.paper.proofs.Least.{least_found, least_end}
 use Rattle.evidence.proofs.Scopes.{made_ready}
-use Rattle.evidence.proofs.OneStep.{Reached, reached_start, reached_more, reached_after}
+use Rattle.evidence.proofs.OneStep.{reached_start, reached_more, reached_after}
 use Rattle.evidence.proofs.steps.bad_steps.Goals as goal
 
 pub loop-i-init : goal.loop-i-init
@@ -18,12 +16,19 @@ pub bad_step-requires : goal.bad_step-requires
 bad_step-requires c =
     let w = c.loop-i.invariant in
     let ready = made_ready _ _ _ c.requires.laid c.sets_of-sets.ensures in
-    record { laid = c.requires.laid; ready = ready; stands = c.requires.stands; whole = c.requires.whole; sound_rows = c.requires.sound_rows; from = record {
-                there = c.loop-i-test.true;
-                from_is = c.from_at-u.ensures;
-                low = omega (arith, w.above _ (omega arith) c.loop-i-test.true, c.from_at-u.ensures);
-                high = omega (arith, c.if-h-u.false);
-              } }
+    record {
+      laid = c.requires.laid;
+      ready = ready;
+      stands = c.requires.stands;
+      whole = c.requires.whole;
+      sound_rows = c.requires.sound_rows;
+      from = record {
+        there = c.loop-i-test.true;
+        from_is = c.from_at-u.ensures;
+        low = omega (arith, w.above _ (omega arith) c.loop-i-test.true, c.from_at-u.ensures);
+        high = omega (arith, c.if-h-u.false);
+      };
+    }
 
 pub returns-then-bad_step : goal.returns-then-bad_step
 returns-then-bad_step c =

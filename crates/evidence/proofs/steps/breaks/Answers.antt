@@ -1,6 +1,5 @@
 -- `evidence::steps::breaks`: each return is one branch of the rule; where the rows are the same only the block that u fetches is asked for.
 use native.Mathlib.Omega.{arith}
-use borrow.Author.Rules.{rules}
 use Rattle.evidence.proofs.OneRow.{number_at, rising_at}
 use Rattle.evidence.proofs.OneEdge.{breaks_b, breaks_not_since, breaks_many, breaks_no_set, breaks_same, breaks_lost, breaks_drops}
 use Rattle.evidence.proofs.steps.breaks.Goals as goal

@@ -1,12 +1,9 @@
 -- Both rows rise, so what has been passed over in s can stand no more in what is left of r (`Merged`).
-use Prim.Native.Nat.{◌-◌}
-use mathlib.Core.Logic.{⊎_elim}
 use native.Mathlib.Omega.{arith}
-use borrow.Author.Rules.{rules}
-use Rattle.paper.specs.Files.{row_at}
 use Rattle.evidence.proofs.Slots.{set_held}
-use Rattle.evidence.proofs.Sets.{Merged, merged_start, merged_at, merged_out, merged_above, merged_skip, merged_same, merged_end}
+use Rattle.evidence.proofs.Sets.{merged_start, merged_at, merged_out, merged_above, merged_skip, merged_same, merged_end}
 use Rattle.evidence.proofs.steps.drops.Goals as goal
+use Rattle.evidence.proofs.steps.drops.Goals.{then-x-y-2, else-x-y-2}
 
 pub returns-then-m-j : goal.returns-then-m-j
 returns-then-m-j c =
@@ -22,12 +19,12 @@ returns-then-x-y c =
 pub loop-i-preserved : goal.loop-i-preserved
 loop-i-preserved c =
     let e = set_held c.requires.rising_at_2.set in
-    ⊎_elim
-    (λ w. merged_at _ _ _ _ _ _ _ w.1
-    (merged_same _ _ _ _ e _ _ c.loop-i.invariant c.loop-i-test.true c.if-m-j.false _ _ c.slot_at-x.ensures c.slot_at-y.ensures c.requires.rising_at.rises w.0.true))
-    (λ w. merged_at _ _ _ _ _ _ _ w.1
-    (merged_skip _ _ _ _ e _ _ c.loop-i.invariant c.loop-i-test.true c.if-m-j.false _ _ c.slot_at-x.ensures c.slot_at-y.ensures (λ z. absurd (omega arith)) w.0.false))
-    c.if-x-y-2.branch
+    elim c.if-x-y-2.branch [
+      | then-x-y-2 w ↦ merged_at _ _ _ _ _ _ _ w.i-is
+          (merged_same _ _ _ _ e _ _ c.loop-i.invariant c.loop-i-test.true c.if-m-j.false _ _ c.slot_at-x.ensures c.slot_at-y.ensures c.requires.rising_at.rises w.if-x-y-2.true)
+      | else-x-y-2 w ↦ merged_at _ _ _ _ _ _ _ w.i-is
+          (merged_skip _ _ _ _ e _ _ c.loop-i.invariant c.loop-i-test.true c.if-m-j.false _ _ c.slot_at-x.ensures c.slot_at-y.ensures (λ z. absurd (omega arith)) w.if-x-y-2.false)
+    ]
 
 pub returns : goal.returns
 returns c = merged_end _ _ _ _ _ _ c.loop-i.invariant c.loop-i-test.false

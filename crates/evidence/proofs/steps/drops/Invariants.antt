@@ -1,11 +1,7 @@
 -- Both rows rise, so what has been passed over in s can stand no more in what is left of r (`Merged`).
 use Prim.Native.Nat.{◌-◌}
-use mathlib.Core.Logic.{⊎_elim}
-use native.Mathlib.Omega.{arith}
-use borrow.Author.Rules.{rules}
 use Rattle.paper.specs.Files.{row_at}
-use Rattle.evidence.proofs.Slots.{set_held}
-use Rattle.evidence.proofs.Sets.{Merged, merged_start, merged_at, merged_out, merged_above, merged_skip, merged_same, merged_end}
+use Rattle.evidence.proofs.Sets.{Merged}
 use Rattle.evidence.proofs.steps.drops.Given as goal
 
 abbrev pub invariant-loop-i : goal.invariant-loop-i

@@ -1,10 +1,6 @@
 -- Edges rise by from: the half that is left has the place where they reach v.
 use Prim.Native.Nat.{◌-◌}
-use mathlib.Core.Path.{refl}
-use native.Mathlib.Omega.{arith}
-use borrow.Author.Rules.{rules}
 use Rattle.evidence.specs.Edges.{Splits}
-use Rattle.evidence.proofs.Halves.{halves_start, halves_low, halves_high, halves_end}
 use Rattle.evidence.proofs.steps.first_edge.Given as goal
 
 abbrev pub invariant-loop-low : goal.invariant-loop-low

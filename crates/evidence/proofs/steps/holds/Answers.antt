@@ -1,12 +1,8 @@
 -- The loop stops where x stands; before it x did not (`Passed`).
-use Prim.Native.Nat.{◌-◌}
 use mathlib.Core.Path.{refl, sym, ◌∙◌}
-use borrow.Author.Rules.{rules}
 use borrow.Author.Tests.{eq-eqb, ne_eqb}
-use lib.Dec.{eqb}
-use Rattle.paper.specs.Files.{row_at}
 use Rattle.paper.specs.Facts.{holds}
-use Rattle.paper.proofs.Least.{Passed, passed_start, passed_more, some_found, some_end}
+use Rattle.paper.proofs.Least.{passed_start, passed_more, some_found, some_end}
 use Rattle.evidence.proofs.Slots.{set_held}
 use Rattle.evidence.proofs.steps.holds.Goals as goal
 

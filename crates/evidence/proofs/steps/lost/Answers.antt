@@ -1,5 +1,4 @@
 -- `evidence::steps::lost`: one return for each part of "u's block where u fetches one of b's set".
-use borrow.Author.Rules.{rules}
 use Rattle.evidence.proofs.Sets.{forgets_none, forgets_other, forgets_same}
 use Rattle.evidence.proofs.steps.lost.Goals as goal
 

@@ -1,7 +1,6 @@
 -- The edge comes from a node of the scope; of an edge that breaks its rule that node's block and row tell which. p is what is known at the start.
 use native.Mathlib.Omega.{arith}
 use mathlib.Core.Path.{refl}
-use borrow.Author.Rules.{rules}
 use borrow.Author.Tests.{eq-eqb, ne_eqb}
 use Rattle.evidence.proofs.OneStep.{step_inside, step_told_lem}
 use Rattle.evidence.proofs.steps.step_number.Goals as goal

@@ -2,13 +2,13 @@
 use Prim.Native.Nat.{◌*◌, ◌-◌}
 use borrow.Author.Rules.{rules}
 use lib.ListN.{length, length-set}
-use Rattle.paper.specs.Files.{u16At}
+use Rattle.paper.specs.Files.{u16_at}
 use Rattle.frames.proofs.FilledLists.{Filled, filled_start, filled_more, filled_end}
 use Rattle.frames.proofs.numbers.read_blocks.Statement.{statement}
 use Rattle.frames.proofs.numbers.read_blocks.Tie as tie
 
 abbrev invariant-loop : tie.invariant-loop
-invariant-loop bytes blocks₀ i₀ blocks i = Filled (λ k. u16At bytes (2 * k)) blocks₀ i blocks
+invariant-loop bytes blocks₀ i₀ blocks i = Filled (λ k. u16_at bytes (2 * k)) blocks₀ i blocks
 
 abbrev decreases-loop : tie.decreases-loop
 decreases-loop bytes blocks₀ i₀ blocks i = length blocks - i

@@ -2,13 +2,13 @@
 use Prim.Native.Nat.{◌*◌, ◌-◌}
 use borrow.Author.Rules.{rules}
 use lib.ListN.{length, length-set}
-use Rattle.frames.specs.Little.{u64At}
+use Rattle.frames.specs.Little.{u64_at}
 use Rattle.frames.proofs.FilledLists.{Filled, filled_start, filled_more, filled_end}
 use Rattle.frames.proofs.numbers.read_numbers.Statement.{statement}
 use Rattle.frames.proofs.numbers.read_numbers.Tie as tie
 
 abbrev invariant-loop : tie.invariant-loop
-invariant-loop bytes numbers₀ i₀ numbers i = Filled (λ k. u64At bytes (8 * k)) numbers₀ i numbers
+invariant-loop bytes numbers₀ i₀ numbers i = Filled (λ k. u64_at bytes (8 * k)) numbers₀ i numbers
 
 abbrev decreases-loop : tie.decreases-loop
 decreases-loop bytes numbers₀ i₀ numbers i = length numbers - i

@@ -3,13 +3,13 @@ use Prim.Native.Nat.{◌+◌}
 use native.Mathlib.Omega.{arith}
 use mathlib.Core.Path.{sym, ◌∙◌}
 use borrow.Author.Tests.{eqb-true}
-use Rattle.paper.specs.Files.{u16At}
+use Rattle.paper.specs.Files.{u16_at}
 use Rattle.paper.proofs.Says.{both}
 use Rattle.layout.proofs.Pack.{same_rows}
 use Rattle.layout.proofs.facts.same_row.Goals as goal
 
 pub returns : goal.returns
-unfolding u16At
+unfolding u16_at
 returns c t =
     let b = c.before.before in
     let a = b.before in
