@@ -1,0 +1,29 @@
+-- `fact_rules` walks through the facts: q is where a fact has had its turn, l where the loop began it.
+use native.Mathlib.Omega.{arith}
+use mathlib.Core.Path.{refl}
+use borrow.Author.Rules.{rules}
+use Rattle.facts.proofs.Walk.{walk_start, walk_on, walk_stops, walk_left, walk_done}
+use Rattle.facts.proofs.fact_rules.Goals as goal
+
+pub loop-i-init : goal.loop-i-init
+loop-i-init c = walk_start _ _ c.requires.laid _ c.facts_at-p.ensures
+
+pub turn_of-r-requires : goal.turn_of-r-requires
+turn_of-r-requires c =
+    record { laid = search rules; shaped = search rules; p_bound = c.loop-i.invariant.room }
+
+pub returns-in-Refused : goal.returns-in-Refused
+returns-in-Refused c =
+    walk_stops _ _ _ _ _ c.loop-i.invariant c.loop-i-test.true _ c.in-Refused.ensures _ refl
+
+pub loop-i-preserved : goal.loop-i-preserved
+loop-i-preserved c =
+    walk_on _ _ _ _ _ c.loop-i.invariant c.loop-i-test.true _ c.in-Kept.ensures _ refl
+
+pub returns-then-p-end_of : goal.returns-then-p-end_of
+returns-then-p-end_of c =
+    walk_left _ _ _ _ _ c.loop-i.invariant c.loop-i-test.false _ (omega (arith, c.if-p-end_of.true, c.end_of.ensures)) c.refuse.ensures
+
+pub returns : goal.returns
+returns c =
+    walk_done _ _ _ _ _ c.loop-i.invariant c.loop-i-test.false (omega (arith, c.if-p-end_of.false, c.end_of.ensures))
