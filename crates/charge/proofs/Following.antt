@@ -4,7 +4,7 @@ use native.Mathlib.Omega.{arith}
 use native.Mathlib.Decide.{ℕ_discrete, dec_lt}
 use mathlib.Core.Path.{◌≡◌, refl, sym, ◌∙◌, ap, subst}
 use mathlib.Core.Logic.{◌≢◌}
-use mathlib.Core.Bool.{Bool, false, cond, ◌&&◌, and_false}
+use mathlib.Core.Bool.{Bool, false, cond, ◌&&◌, and-false}
 use mathlib.Core.List.{List}
 use borrow.Author.Tests.{le-leb, lt-leb, ne_eqb}
 use lib.Dec.{eqb, leb}
@@ -26,7 +26,7 @@ module _ (e : Case) (s : Loop) (b : ℕ) where
   -- what is not of b's bucket does not fetch b
   fetches_other : (v : ℕ) → bucket e v ≢ b % Sizes.buckets → fetches_in e s b v ≡ false
   unfolding inside
-  fetches_other v h = rw (ne_eqb (e.block v) b (λ q. h (ap (λ x. x % Sizes.buckets) q))) (and_false (leb s.first v && leb v s.last))
+  fetches_other v h = rw (ne_eqb (e.block v) b (λ q. h (ap (λ x. x % Sizes.buckets) q))) (and-false (leb s.first v && leb v s.last))
 
   fetches_before : (v : ℕ) → v < s.first → fetches_in e s b v ≡ false
   unfolding inside

@@ -3,7 +3,7 @@ use Prim.Native.Nat.{ℕ, suc, ◌+◌, ◌≤◌, ◌<◌}
 use native.Mathlib.Omega.{arith}
 use native.Mathlib.Decide.{ℕ_discrete, dec_le}
 use mathlib.Core.Path.{◌≡◌, refl, ◌∙◌, ap}
-use mathlib.Core.Bool.{Bool, true, false, cond, not, ◌&&◌, and-true, and_false}
+use mathlib.Core.Bool.{Bool, true, false, cond, not, ◌&&◌, and-true, and-false}
 use mathlib.Core.List.{List}
 use borrow.Author.Tests.{le-leb, lt-leb, eq-eqb, ne_eqb}
 use lib.Dec.{eqb, leb}
@@ -71,7 +71,7 @@ module _ (s x a : ℕ → ℕ) (q n : ℕ) where
   module _ (hx : (i : ℕ) → i < n → 1 ≤ x i) where
     pub up_none : up_to 0 ≡ 0
     unfolding up_to
-    up_none = sum_none _ n (λ i h. rw (lt-leb (x i) 0 (hx i h), and_false) refl)
+    up_none = sum_none _ n (λ i h. rw (lt-leb (x i) 0 (hx i h), and-false) refl)
 
     pub past_all : beyond 0 ≡ sum_to (λ i. cond (eqb (s i) q) (a i) 0) n
     unfolding beyond

@@ -3,7 +3,7 @@ use Prim.Native.Nat.{ℕ, ◌+◌, ◌*◌, ◌≤◌, ◌<◌}
 use native.Mathlib.Omega.{arith}
 use native.Mathlib.Decide.{ℕ_discrete}
 use native.Mathlib.Numerals.{add-one}
-use mathlib.Core.Path.{refl, sym, ◌∙◌}
+use mathlib.Core.Path.{refl, sym, ap, ◌∙◌}
 use mathlib.Core.List.{List}
 use borrow.Author.Tests.{eq-eqb, ne_eqb}
 use lib.Dec.{eqb}
@@ -31,7 +31,7 @@ module _ (key amount : ℕ → ℕ) where
               λ j hj.
               let r : j < length l = omega (arith, length-set l (key n) y) in
               elim (ℕ_discrete (key n) j) [
-                | yes q ↦ rw (← q, eq-eqb (key n) (key n) refl) (get_or-set_same l (key n) y 0 h ∙ omega (arith, w.is (key n) h))
+                | yes q ↦ rw (← q, eq-eqb (key n) (key n) refl) (get_or-set_same l (key n) y 0 h ∙ omega (arith, w.is j r, ap (λ k. get_or l k 0) q))
                 | no q ↦
                     rw (ne_eqb (key n) j q) (get_or-set_other l (key n) j y 0 (λ z. q (sym z)) ∙ omega (arith, w.is j r))
               ];

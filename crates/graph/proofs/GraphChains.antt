@@ -1,5 +1,5 @@
 -- The graph's chain put together from its parts' verdicts.
-use mathlib.Core.Path.{◌≡◌, sym, ◌∙◌}
+use mathlib.Core.Path.{◌≡◌, refl, sym, ◌∙◌}
 use Rattle.paper.specs.declared.Refusal.{Refusal}
 use Rattle.paper.specs.declared.Verdict.{Verdict}
 use Rattle.paper.specs.declared.Verdict.TheVariants.{Accepted, Refused}
@@ -8,6 +8,11 @@ use Rattle.paper.specs.Known.{Shaped}
 use Rattle.paper.specs.Verdicts.{shape_rules, path_rules, count_rules, graph_rules}
 use Rattle.paper.proofs.RuleLaws.{accepted_on, refused_on}
 use Rattle.paper.proofs.VerdictLaws.{shape_kept, hands_shape, hands_paths}
+
+-- a verdict that refuses nothing
+pub unrefused : (v : Verdict) → ((r : Refusal) → ¬ (v ≡ Refused r)) → v ≡ Accepted
+unrefused Accepted n = refl
+unrefused (Refused r) n = absurd (n r refl)
 
 -- the shape's verdict is v
 module _ (e : Case) (v : Verdict) (a : v ≡ shape_rules e Accepted) where

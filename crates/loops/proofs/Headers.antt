@@ -4,6 +4,7 @@ use native.Mathlib.Omega.{arith}
 use mathlib.Core.Path.{◌≡◌, refl}
 use Rattle.paper.specs.Lists.{chain}
 use Rattle.paper.specs.Cases.{Case, inside}
+use Rattle.paper.specs.Graphs.{header_visits}
 use Rattle.paper.proofs.Says.{says_is, says_false, says_same}
 use Rattle.paper.proofs.Meaning.{In}
 use Rattle.paper.proofs.GraphLaws.{inside_says}
@@ -36,4 +37,4 @@ module _ (e : Case) where
     count_same =
         let a = says_is (inside_says (e.loop j) v) h in
         let b = says_is (inside_says (e.loop j) (e.loop j).first) (omega (arith, h), omega (arith, h)) in
-        rw (chain_same _ _ _ j same, a, b) refl
+        rw (chain_same (header_visits e) (λ i. inside (e.loop i) v) (λ i. inside (e.loop i) (e.loop j).first) j same, a, b) refl

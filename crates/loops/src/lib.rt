@@ -36,7 +36,7 @@ fn step(visits: u32, l: Loop, node: u16) -> u32
     visits
 }
 
-// A node's count over the loops that are lent. (Its proof is a walk by hand.)
+// A node's count over the loops that are lent.
 pub fn count(loops: &[Loop], node: u16) -> u32
     ensures { result ≡ count_in loops.now (length loops.now) node }
 {
@@ -49,7 +49,7 @@ pub fn count(loops: &[Loop], node: u16) -> u32
     visits
 }
 
-// The same over the first n of 64: they are lent for the call. (Its proof is a walk by hand.)
+// The same over the first n of 64: they are lent for the call.
 pub fn count_in(loops: [Loop; MOST_LOOPS], n: usize, node: u16) -> u32
     requires { n ≤ most_loops }
     ensures { result ≡ count_in loops n node }

@@ -1,7 +1,7 @@
 -- 20 and 27, where the time is known cut: it is too large exactly where what is cut is.
 use Prim.Native.Nat.{ℕ, ◌≤◌, ◌<◌, min}
 use native.Mathlib.Omega.{arith}
-use mathlib.Core.Path.{◌≡◌, refl, sym, ◌∙◌, ap}
+use mathlib.Core.Path.{◌≡◌, ap}
 use mathlib.Core.Logic.{◌≢◌}
 use mathlib.Core.List.{List}
 use borrow.Author.Tests.{lt-ltb, le-ltb, eq-eqb, ne_eqb}

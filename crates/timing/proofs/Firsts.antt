@@ -8,7 +8,7 @@ use Rattle.paper.specs.Cases.{Case}
 use Rattle.paper.specs.Known.{Shaped}
 use Rattle.paper.specs.Times.{step_loop, step_first, step_time}
 use Rattle.paper.proofs.Meaning.{In}
-use Rattle.paper.proofs.TimeLaws.{Free, Held, step_of, free_outer, held_outer, free_first, free_time, held_first, held_time}
+use Rattle.paper.proofs.TimeLaws.{Free, Held, step_of, free_outer, held_outer, free_first, held_first, held_time}
 
 module _ (e : Case) where
   -- no loop is a step

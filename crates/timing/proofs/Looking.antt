@@ -1,11 +1,9 @@
 -- What the tables of steps and times say of a node: where its step begins, how long it takes, and its number.
 use Prim.Native.Nat.{ℕ, suc, ◌+◌, ◌≤◌, ◌<◌, min}
 use native.Mathlib.Omega.{arith}
-use mathlib.Core.Path.{◌≡◌, refl, sym, ◌∙◌, ap}
+use mathlib.Core.Path.{◌≡◌, refl}
 use mathlib.Core.Logic.{◌≢◌, ⊎_elim}
-use mathlib.Core.Bool.{cond}
-use borrow.Author.Tests.{lt-ltb, le-ltb, eq-eqb, ne_eqb}
-use lib.Dec.{eqb}
+use borrow.Author.Tests.{lt-ltb, le-ltb, ne_eqb}
 use Rattle.paper.specs.Cases.{Case}
 use Rattle.paper.specs.Times.{step_loop, step_first, step_time}
 use Rattle.paper.proofs.TimeLaws.{step_of, free_outer, held_outer}

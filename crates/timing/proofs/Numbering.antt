@@ -1,12 +1,12 @@
 -- The table of what comes before each node, edge by edge; and the greatest number.
-use Prim.Native.Nat.{ℕ, suc, ◌+◌, ◌≤◌, ◌<◌, max}
+use Prim.Native.Nat.{ℕ, ◌+◌, ◌≤◌, ◌<◌, max}
 use native.Mathlib.Omega.{arith}
 use native.Mathlib.Numerals.{add-one}
 use native.Mathlib.Decide.{ℕ_discrete}
-use mathlib.Core.Path.{◌≡◌, refl, sym, ◌∙◌, ap}
+use mathlib.Core.Path.{◌≡◌, refl, ◌∙◌}
 use mathlib.Core.List.{List}
-use borrow.Author.Tests.{eq-eqb, ne_eqb, lt-ltb, le-ltb}
-use lib.ListN.{length, get_or, set, length-set, replicate, get_or-replicate, length-replicate}
+use borrow.Author.Tests.{eq-eqb, ne_eqb}
+use lib.ListN.{get_or, set, length-set, replicate, get_or-replicate, length-replicate}
 use lib.Seq.{get_or-set_same, get_or-set_other}
 use Rattle.paper.specs.Lists.{highest_to}
 use Rattle.paper.specs.Ceilings.{most_nodes}

@@ -1,11 +1,11 @@
 -- One pass over the edges in file order gives each node the number that the table of ways has for it, cut: when an edge has its turn, all edges into its start's step have had theirs.
 use Prim.Native.Nat.{ℕ, zero, suc, ◌+◌, ◌-◌, ◌≤◌, ◌<◌, min, max}
 use native.Mathlib.Omega.{arith}
-use native.Mathlib.Decide.{dec_lt, dec_le, ℕ_discrete}
+use native.Mathlib.Decide.{dec_lt}
 use mathlib.Core.Path.{◌≡◌, refl, sym, ◌∙◌, ap}
 use mathlib.Core.Logic.{dite}
 use mathlib.Core.Bool.{Bool, cond, ◌&&◌}
-use borrow.Author.Tests.{lt-ltb, le-ltb, eq-eqb, ne_eqb}
+use borrow.Author.Tests.{lt-ltb, le-ltb, ne_eqb}
 use lib.Dec.{eqb, ltb}
 use lib.ListN.{get_or}
 use Rattle.paper.specs.Lists.{bit, highest_to, in_turn}

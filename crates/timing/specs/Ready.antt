@@ -1,7 +1,6 @@
 -- The tables of the loops that are steps already: which step has a node, and how long each takes.
 use Rattle.std.specs.Prelude.{ℕ, ◌≤◌, ◌<◌, min, ◌≡◌, List, length, get_or}
 use Rattle.paper.specs.declared.Trailer.{Trailer}
-use Rattle.paper.specs.Cases.{Case}
 use Rattle.paper.specs.Files.{case_of}
 use Rattle.paper.specs.Times.{step_loop, time_of}
 use Rattle.timing.specs.Pushed.{cut}

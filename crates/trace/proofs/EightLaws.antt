@@ -5,7 +5,7 @@ use native.Mathlib.Decide.{dec_lt}
 use native.Mathlib.Omega.{arith}
 use mathlib.Core.Path.{◌≡◌, refl, sym, ◌∙◌, ap}
 use mathlib.Core.Bool.{Bool, true, false, ◌||◌, true≢false}
-use mathlib.Core.List.{List, [], ◌∷◌}
+use mathlib.Core.List.{List}
 use lib.ListN.{length}
 use Rattle.paper.specs.Lists.{table}
 use Rattle.paper.specs.Traces.{bad_access}

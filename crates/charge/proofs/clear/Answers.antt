@@ -1,9 +1,7 @@
 -- Each turn writes one 0 more; what follows the list is left.
-use Prim.Native.Nat.{◌-◌}
 use native.Mathlib.Omega.{arith}
 use mathlib.Core.Path.{refl}
-use Rattle.paper.specs.Bounds.{list_length}
-use Rattle.paper.proofs.TableLaws.{Written, written_start, written_length, written_more, written_end}
+use Rattle.paper.proofs.TableLaws.{written_start, written_length, written_more, written_end}
 use Rattle.charge.proofs.clear.Goals as goal
 
 pub loop-i-init : goal.loop-i-init

@@ -1,9 +1,7 @@
 -- Each turn writes one 0 more; what follows the list is left.
 use Prim.Native.Nat.{◌-◌}
-use native.Mathlib.Omega.{arith}
-use mathlib.Core.Path.{refl}
 use Rattle.paper.specs.Bounds.{list_length}
-use Rattle.paper.proofs.TableLaws.{Written, written_start, written_length, written_more, written_end}
+use Rattle.paper.proofs.TableLaws.{Written}
 use Rattle.charge.proofs.clear.Given as goal
 
 abbrev pub invariant-loop-i : goal.invariant-loop-i

@@ -1,7 +1,6 @@
 -- The loops are handed on as records, and counted.
 use mathlib.Core.Path.{◌∙◌, refl}
 use native.Mathlib.Numerals.{add-one}
-use borrow.Author.Rules.{rules}
 use Rattle.loops.proofs.header_count.Goals as goal
 
 pub returns : goal.returns

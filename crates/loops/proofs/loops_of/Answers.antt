@@ -1,9 +1,7 @@
 -- What is read so far (`Read`): each record is the loop that the file has there.
-use Prim.Native.Nat.{◌-◌}
 use native.Mathlib.Omega.{arith}
 use mathlib.Core.Path.{refl}
-use borrow.Author.Rules.{rules}
-use Rattle.loops.proofs.Handing.{Read, read_start, read_more, read_end}
+use Rattle.loops.proofs.Handing.{read_start, read_more, read_end}
 use Rattle.loops.proofs.loops_of.Goals as goal
 
 pub loop-j-preserved : goal.loop-j-preserved

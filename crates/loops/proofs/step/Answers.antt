@@ -5,7 +5,7 @@ use native.Mathlib.Nat.{mul-le-mul}
 use mathlib.Core.Path.{◌≡◌, refl, sym, ◌∙◌, ap}
 use mir.Syntax.{w64}
 use mir.Val.{Fits}
-use borrow.Author.Rules.{rules}
+use Rattle.paper.specs.declared.Loop.{Loop}
 use Rattle.paper.specs.Cases.{inside}
 use Rattle.paper.specs.Graphs.{at_most}
 use Rattle.loops.specs.Counts.{taken, stepped}
@@ -15,28 +15,23 @@ use Rattle.loops.proofs.step.Goals as goal
 fits : (a b : ℕ) → a ≤ 4294967295 → b ≤ 4294967296 → Fits w64 (a * b)
 fits a b h k = record { fits = omega (arith, mul-le-mul h k) }
 
--- where l has the node
-abbrev has : goal.After-at_most-n → goal.Then-l-node
-has c = c.before.before.before
-
-abbrev start : goal.Then-l-node → goal.Start
-start c = c.before.before.before
-
 -- its header visits, before they are shown
-visits-are : (c : goal.After-at_most-n) → let a = (start (has c)).args in c.at_most-n.result ≡ at_most a.l.visits (a.l.bound * taken a.visits)
-visits-are c = let a = (start (has c)).args in c.at_most-n.ensures ∙ ap (λ (k : ℕ). at_most a.l.visits (a.l.bound * k)) c.true.ensures.0
+visits-are : (l : Loop) (visits n t : ℕ) → n ≡ at_most l.visits (l.bound * t) → t ≡ taken visits → n ≡ at_most l.visits (l.bound * taken visits)
+visits-are l visits n t e h = e ∙ ap (λ (k : ℕ). at_most l.visits (l.bound * k)) h
 
 pub returns-then-n-gt4294967295 : goal.returns-then-n-gt4294967295
 unfolding inside stepped
-returns-then-n-gt4294967295 c = let n = c.before in rw ((has n).if-l-node.true, ← visits-are n) (sym (shown_large _ c.if-n-gt4294967295.true))
+returns-then-n-gt4294967295 c =
+    rw (c.if-l-node.true, ← visits-are c.args.l _ _ _ c.at_most-n.ensures c.taken.ensures.value) (sym (shown_large _ c.if-n-gt4294967295.true))
 
 pub returns-then-l-node : goal.returns-then-l-node
 unfolding inside stepped
-returns-then-l-node c = let n = c.before in rw ((has n).if-l-node.true, ← visits-are n) (sym (shown_small _ c.if-n-gt4294967295.false))
+returns-then-l-node c =
+    rw (c.if-l-node.true, ← visits-are c.args.l _ _ _ c.at_most-n.ensures c.taken.ensures.value) (sym (shown_small _ c.if-n-gt4294967295.false))
 
 pub returns : goal.returns
 unfolding inside
 returns c = rw c.if-l-node.false refl
 
 pub overflow_mul-l : goal.overflow_mul-l
-overflow_mul-l c = fits _ _ (omega arith) c.true.ensures.1
+overflow_mul-l c = fits _ _ (omega arith) c.taken.ensures.upper_bound

@@ -3,10 +3,9 @@ use Prim.Native.Nat.{ℕ, zero, suc, ◌<◌}
 use native.Mathlib.Omega.{arith}
 use mathlib.Core.Path.{◌≡◌, sym, ◌∙◌}
 use mathlib.Core.Bool.{true, false≢true}
-use borrow.Author.Tests.{not-false, lt-ltb, le-ltb}
+use borrow.Author.Tests.{lt-ltb, le-ltb}
 use Rattle.paper.specs.Machines.{stands}
 use Rattle.paper.specs.Operations.{line_size, block_answer}
-use borrow.Author.Rules.{rules}
 use Rattle.machine.proofs.block_of.Goals as goal
 
 size_low : (n : ℕ) → line_size n ≡ true → 0 < n

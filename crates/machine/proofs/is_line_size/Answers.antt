@@ -8,12 +8,12 @@ use Rattle.machine.proofs.is_line_size.Goals as goal
 
 pub returns-in-8 : goal.returns-in-8
 unfolding line_size stands
-returns-in-8 c = ⊎_elim (λ e. rw e) (⊎_elim (λ e. rw e) (⊎_elim (λ e. rw e) (⊎_elim (λ e. rw e) (λ e. rw e)))) c.in-8.keys1
+returns-in-8 c = ⊎_elim (λ e. rw e) (⊎_elim (λ e. rw e) (⊎_elim (λ e. rw e) (⊎_elim (λ e. rw e) (λ e. rw e)))) c.in-8.is
 
 pub returns-in_default : goal.returns-in_default
 unfolding line_size stands
 returns-in_default c =
-    let r = c.in-8.rest.1 in
+    let r = c.in_default.in_default-own.rest.1 in
     rw (
       ne_eqb 8 _ (λ e. r (inl (sym e))),
       ne_eqb 16 _ (λ e. r (inr (inl (sym e)))),

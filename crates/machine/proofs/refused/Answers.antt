@@ -1,5 +1,4 @@
 -- The state goes back as it came, with the refusal.
-use borrow.Author.Rules.{rules}
 use Rattle.machine.proofs.refused.Goals as goal
 
 pub returns : goal.returns

@@ -1,10 +1,9 @@
 -- Sets first, then the block; the remainder is below the number of sets.
 use mathlib.Core.Path.{sym, ◌∙◌}
-use borrow.Author.Tests.{not-false, eq-eqb, ne_eqb}
+use borrow.Author.Tests.{eq-eqb, ne_eqb}
 use Rattle.paper.specs.Operations.{set_answer}
 use Rattle.paper.proofs.Says.{says_true}
 use Rattle.paper.proofs.States.{says_sets}
-use borrow.Author.Rules.{rules}
 use Rattle.machine.proofs.set_of.Goals as goal
 
 pub returns-then-not-is_set_count : goal.returns-then-not-is_set_count

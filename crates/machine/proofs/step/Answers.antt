@@ -1,10 +1,8 @@
 -- 3, then 22, then 21, as the definition has them (StepLaws); what is left is a legal state, which is stepped.
 use mathlib.Core.Path.{sym, ◌∙◌}
-use borrow.Author.Tests.{not-true, not-false}
 use Rattle.paper.proofs.Says.{says_true}
 use Rattle.paper.proofs.States.{says_offered}
 use Rattle.paper.proofs.StepLaws.{step_3, step_22, step_21, step_taken}
-use borrow.Author.Rules.{rules}
 use Rattle.machine.proofs.step.Goals as goal
 
 pub returns-then-not-is_offered : goal.returns-then-not-is_offered

@@ -1,8 +1,7 @@
 -- One branch a policy; a legal state has what its step asks for (`legal_ready`, `nmru_bits`).
 use native.Mathlib.Omega.{arith}
-use borrow.Author.Rules.{rules}
 use Prim.Native.Nat.{ℕ, ◌+◌, ◌^◌, ◌<◌}
-use mathlib.Core.Path.{◌≡◌, sym, ◌∙◌, refl, ap, subst}
+use mathlib.Core.Path.{◌≡◌, sym, ◌∙◌, ap, subst}
 use mathlib.Core.Bool.{true}
 use mathlib.Core.Logic.{◌≢◌}
 use borrow.Author.Tests.{eq-eqb, ne_eqb}
@@ -48,7 +47,7 @@ returns-then-policy-eq-FIFO c = c.fifo.ensures ∙ sym (rw (step, ne_eqb _ _ c.i
 pub step_alone-requires : goal.step_alone-requires
 step_alone-requires c =
     let e : c.args.policy ≡ tree_policy = omega (arith, c.if-policy-eq-TREE.true) in
-    record { k_value = subst (λ (p : ℕ). offered p s.args.k ≡ true) e s.requires.k_value; state_value = subst (λ (p : ℕ). legal p s.args.k s.args.state ≡ true) e s.requires.state_value; block_nonzero = s.requires.block_nonzero }
+    record { k_value = subst (λ (p : ℕ). offered p c.args.k ≡ true) e c.requires.k_value; state_value = subst (λ (p : ℕ). legal p c.args.k c.args.state ≡ true) e c.requires.state_value; block_nonzero = c.requires.block_nonzero }
 
 pub returns-then-policy-eq-TREE : goal.returns-then-policy-eq-TREE
 unfolding step
@@ -69,10 +68,12 @@ pub step_of_eight-requires : goal.step_of_eight-requires
 step_of_eight-requires c =
     let o = says_true (says_offered _ _) c.requires.k_value in
     let e : c.args.k ≡ 8 = omega (arith, c.if-k-eq8.true) in
+    let r =
     subst
     (Asked c.args.state c.args.block.0 c.line-line.result)
     e
-    (legal_ready _ _ _ c.requires.state_value o, (nmru_bits _ _ _ c.requires.state_value (omega (arith, o.known)), c.line-line.ensures))
+    (legal_ready _ _ _ c.requires.state_value o, (nmru_bits _ _ _ c.requires.state_value (omega (arith, o.known)), c.line-line.ensures)) in
+    record { ready = r.0; bits_bound = r.1.0; line_value = r.1.1 }
 
 -- a policy that is none of the others is NMRU, and its step is NMRU's
 nmru-is : (c : goal.After-step_of_eight) → let a = c.args in nmru_step a.k a.state a.block.0 ≡ step a.policy a.k a.state a.block.0

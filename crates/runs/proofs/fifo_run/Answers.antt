@@ -1,18 +1,17 @@
 -- `runs::fifo_run`: an access keeps what holds of a run; a hit changes nothing, so only a miss is stored.
-use Prim.Native.Nat.{◌-◌, ◌<◌}
+use Prim.Native.Nat.{◌<◌}
 use native.Mathlib.Omega.{arith}
 use mathlib.Core.Path.{◌≡◌, refl, sym, ap, ◌∙◌}
-use mathlib.Core.Logic.{⊎_elim}
 use lib.ListN.{length, get_or}
-use borrow.Author.Rules.{rules}
 use borrow.Author.Tests.{not-false}
 use Rattle.paper.specs.declared.SetState.{SetState}
 use Rattle.paper.specs.Machines.{step}
 use Rattle.paper.specs.Policies.{fifo_policy}
 use Rattle.runs.specs.TraceRuns.{held, no_lines}
-use Rattle.runs.proofs.Going.{Going, Access, few_ways, sets_ready, access_is, going_start, going_more, going_end, set_ready, no_none}
+use Rattle.runs.proofs.Going.{Access, few_ways, sets_ready, access_is, going_start, going_more, going_end, set_ready, no_none}
 use Rattle.runs.proofs.Held.{Stored, stored, unchanged, held_at, held_empty, fifo_same}
 use Rattle.runs.proofs.fifo_run.Goals as goal
+use Rattle.runs.proofs.fifo_run.Goals.{then-not-t, else-not-t}
 
 pub home_in-at-requires : goal.home_in-at-requires
 home_in-at-requires c =
@@ -33,17 +32,18 @@ state c = held_at _ _ (omega (arith, c.loop-i.invariant.1, c.home_in-at.ensures.
 pub fifo-t-requires : goal.fifo-t-requires
 fifo-t-requires c =
     let p = c.requires in
-    record { ready = set_ready p c.loop-i.invariant.0 _ _ (state c.before); block_nonzero = no_none p (home c.before).within; beyond_value = c.kept_from-beyond.ensures }
+    let e = held_at c.loop-i.states c.home_in-at.result (omega (arith, c.loop-i.invariant.1, c.home_in-at.ensures.upper_bound)) in
+    record { ready = set_ready p c.loop-i.invariant.0 _ _ e; block_nonzero = no_none p (omega arith); beyond_value = c.kept_from-beyond.ensures }
 
 -- only a miss is stored
 kept : (c : goal.After-mark_of-m) → Stored c.loop-i.states c.home_in-at.result c.fifo-t.result.state c.if-not-t.states
 kept c =
     let t = c.fifo-t in
     let low : c.home_in-at.result < length c.loop-i.states = omega (arith, c.loop-i.invariant.1, c.home_in-at.ensures.upper_bound) in
-    ⊎_elim
-    (λ w. stored _ _ _ _ low w.2)
-    (λ w. unchanged _ _ _ _ low w.1 (fifo_same _ _ _ _ t.ensures (not-false _ w.0.false)))
-    c.if-not-t.branch
+    elim c.if-not-t.branch [
+      | then-not-t w ↦ stored _ _ _ _ low w.states-is
+      | else-not-t w ↦ unchanged _ _ _ _ low w.states-is (fifo_same _ _ _ _ t.ensures (not-false _ w.if-not-t.false))
+    ]
 
 pub loop-i-preserved : goal.loop-i-preserved
 unfolding step
@@ -52,9 +52,9 @@ loop-i-preserved c =
     let m = c.mark_of-m in
     let k = kept c in
     let b = get_or c.args.blocks.now c.loop-i.i 0 in (
-      going_more c.requires c.loop-i.invariant.0 (home c) t.result (t.ensures ∙ ap (λ (s : SetState). step fifo_policy o.args.k s b) (sym (state c)))
+      going_more c.requires c.loop-i.invariant.0 (home c) t.result (t.ensures ∙ ap (λ (s : SetState). step fifo_policy c.args.k s b) (sym (state c)))
           (held c.if-not-t.states) k.here k.there _ m.ensures.value m.ensures.upper_bound,
-      k.long ∙ o.loop-i.invariant.1,
+      k.long ∙ c.loop-i.invariant.1,
     )
 
 pub kept_from-beyond-requires : goal.kept_from-beyond-requires

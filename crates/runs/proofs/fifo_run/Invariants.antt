@@ -1,17 +1,10 @@
 -- `runs::fifo_run`: an access keeps what holds of a run; a hit changes nothing, so only a miss is stored.
-use Prim.Native.Nat.{◌-◌, ◌<◌}
-use native.Mathlib.Omega.{arith}
-use mathlib.Core.Path.{◌≡◌, refl, sym, ap, ◌∙◌}
-use mathlib.Core.Logic.{⊎_elim}
-use lib.ListN.{length, get_or}
-use borrow.Author.Rules.{rules}
-use borrow.Author.Tests.{not-false}
-use Rattle.paper.specs.declared.SetState.{SetState}
-use Rattle.paper.specs.Machines.{step}
+use Prim.Native.Nat.{◌-◌}
+use mathlib.Core.Path.{◌≡◌}
+use lib.ListN.{length}
 use Rattle.paper.specs.Policies.{fifo_policy}
-use Rattle.runs.specs.TraceRuns.{held, no_lines}
-use Rattle.runs.proofs.Going.{Going, Access, few_ways, sets_ready, access_is, going_start, going_more, going_end, set_ready, no_none}
-use Rattle.runs.proofs.Held.{Stored, stored, unchanged, held_at, held_empty, fifo_same}
+use Rattle.runs.specs.TraceRuns.{held}
+use Rattle.runs.proofs.Going.{Going}
 use Rattle.runs.proofs.fifo_run.Given as goal
 
 abbrev pub invariant-loop-i : goal.invariant-loop-i

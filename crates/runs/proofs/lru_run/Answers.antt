@@ -1,17 +1,16 @@
 -- `runs::lru_run`: the last set is held apart, an access keeps what holds of such a run, and the shift is always one that some weight gives.
-use Prim.Native.Nat.{ℕ, ◌-◌}
+use Prim.Native.Nat.{ℕ}
 use native.Mathlib.Omega.{arith}
 use mathlib.Core.Path.{◌≡◌, sym, ap, ◌∙◌}
-use mathlib.Core.Logic.{⊎_elim}
-use lib.ListN.{length}
 use borrow.Author.Rules.{rules}
 use Rattle.paper.specs.declared.Shift.{Shift}
 use Rattle.paper.specs.Machines.{step}
 use Rattle.paper.specs.Policies.{lru_policy}
 use Rattle.paper.specs.Shifts.{shift_at}
 use Rattle.runs.proofs.Going.{Access, few_ways, sets_ready, access_is, going_end, no_none}
-use Rattle.runs.proofs.Apart.{Apart, Turned, apart_start, stays, turns, apart_ready, apart_more}
+use Rattle.runs.proofs.Apart.{Turned, apart_start, stays, turns, apart_ready, apart_more}
 use Rattle.runs.proofs.lru_run.Goals as goal
+use Rattle.runs.proofs.lru_run.Goals.{then-at-last, else-at-last}
 
 -- a shift is the one that its own weight gives
 shift-known : (t : Shift) (k : ℕ) {w : ℕ} → t ≡ shift_at k w → t ≡ shift_at k t.weight
@@ -41,24 +40,24 @@ turned :
     (c : goal.After-shift-n) →
     let v = c.loop-i in
     let a = c.args in
-    Turned lru_policy a.k a.sets a.blocks.now a.marks.now v.marks c.if-at-last.states c.if-at-last.new c.if-at-last.state v.misses v.i
+    Turned lru_policy a.k a.sets a.blocks.now a.marks.now v.marks c.if-at-last.states c.if-at-last.last c.if-at-last.state v.misses v.i
 turned c =
     let p = c.requires in
     let a = c.loop-i.invariant.0 in
     let h = home_2 c in
-    ⊎_elim (λ w. turns p a h w.0.true w.2 w.3 w.4) (λ w. stays p a h w.0.false w.1 w.2 w.3) c.if-at-last.branch
+    elim c.if-at-last.branch [ then-at-last w ↦ turns p a h w.if-at-last.true w.states-is w.state-is w.last-is | else-at-last w ↦ stays p a h w.if-at-last.false w.states-is w.state-is w.last-is ]
 
 -- the set that is held apart is that of the access
 turned_2 :
     (c : goal.After-state-in-loop-i-1) →
     let v = c.loop-i in
     let a = c.args in
-    Turned lru_policy a.k a.sets a.blocks.now a.marks.now v.marks c.if-at-last.states c.if-at-last.new c.if-at-last.state v.misses v.i
+    Turned lru_policy a.k a.sets a.blocks.now a.marks.now v.marks c.if-at-last.states c.if-at-last.last c.if-at-last.state v.misses v.i
 turned_2 c =
     let p = c.requires in
     let a = c.loop-i.invariant.0 in
     let h = home c in
-    ⊎_elim (λ w. turns p a h w.0.true w.2 w.3 w.4) (λ w. stays p a h w.0.false w.1 w.2 w.3) c.if-at-last.branch
+    elim c.if-at-last.branch [ then-at-last w ↦ turns p a h w.if-at-last.true w.states-is w.state-is w.last-is | else-at-last w ↦ stays p a h w.if-at-last.false w.states-is w.state-is w.last-is ]
 
 pub lru-t-requires : goal.lru-t-requires
 lru-t-requires c =

@@ -1,16 +1,10 @@
 -- `runs::lru_run`: the last set is held apart, an access keeps what holds of such a run, and the shift is always one that some weight gives.
-use Prim.Native.Nat.{ℕ, ◌-◌}
-use native.Mathlib.Omega.{arith}
-use mathlib.Core.Path.{◌≡◌, sym, ap, ◌∙◌}
-use mathlib.Core.Logic.{⊎_elim}
+use Prim.Native.Nat.{◌-◌}
+use mathlib.Core.Path.{◌≡◌}
 use lib.ListN.{length}
-use borrow.Author.Rules.{rules}
-use Rattle.paper.specs.declared.Shift.{Shift}
-use Rattle.paper.specs.Machines.{step}
 use Rattle.paper.specs.Policies.{lru_policy}
 use Rattle.paper.specs.Shifts.{shift_at}
-use Rattle.runs.proofs.Going.{Access, few_ways, sets_ready, access_is, going_end, no_none}
-use Rattle.runs.proofs.Apart.{Apart, Turned, apart_start, stays, turns, apart_ready, apart_more}
+use Rattle.runs.proofs.Apart.{Apart}
 use Rattle.runs.proofs.lru_run.Given as goal
 
 abbrev pub invariant-loop-i : goal.invariant-loop-i

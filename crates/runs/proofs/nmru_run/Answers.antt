@@ -1,15 +1,14 @@
 -- `runs::nmru_run`: the last set is held apart, and an access keeps what holds of such a run. Nothing is asked of a guess.
-use Prim.Native.Nat.{◌+◌, ◌-◌, ◌%◌}
+use Prim.Native.Nat.{◌+◌, ◌%◌}
 use native.Mathlib.Omega.{arith}
 use mathlib.Core.Path.{◌≡◌, refl, ap, ◌∙◌}
-use mathlib.Core.Logic.{⊎_elim}
 use lib.ListN.{length, get_or, length-set}
-use borrow.Author.Rules.{rules}
 use Rattle.paper.specs.Machines.{step}
 use Rattle.paper.specs.Policies.{nmru_policy}
 use Rattle.runs.proofs.Going.{Access, sets_ready, access_is, going_end, no_none}
-use Rattle.runs.proofs.Apart.{Apart, Turned, apart_start, stays, turns, apart_ready, apart_bits, apart_by_bits, apart_more}
+use Rattle.runs.proofs.Apart.{Turned, apart_start, stays, turns, apart_ready, apart_bits, apart_by_bits, apart_more}
 use Rattle.runs.proofs.nmru_run.Goals as goal
+use Rattle.runs.proofs.nmru_run.Goals.{then-at-last, else-at-last, then-not-line, else-not-line}
 
 pub home_in-at-requires : goal.home_in-at-requires
 home_in-at-requires c =
@@ -42,36 +41,36 @@ turned :
     (c : goal.Joined-at-last) →
     let v = c.loop-i in
     let a = c.args in
-    Turned nmru_policy a.k a.sets a.blocks.now a.marks.now v.marks c.if-at-last.states c.if-at-last.new c.if-at-last.state v.misses v.i
+    Turned nmru_policy a.k a.sets a.blocks.now a.marks.now v.marks c.if-at-last.states c.if-at-last.last c.if-at-last.state v.misses v.i
 turned c =
     let p = c.requires in
     let a = c.loop-i.invariant.0 in
     let h = home_3 c in
-    ⊎_elim (λ w. turns p a h w.0.true w.2 w.3 w.4) (λ w. stays p a h w.0.false w.1 w.2 w.3) c.if-at-last.branch
+    elim c.if-at-last.branch [ then-at-last w ↦ turns p a h w.if-at-last.true w.states-is w.state-is w.last-is | else-at-last w ↦ stays p a h w.if-at-last.false w.states-is w.state-is w.last-is ]
 
 -- the set that is held apart is that of the access
 turned_2 :
     (c : goal.After-next-1) →
     let v = c.loop-i in
     let a = c.args in
-    Turned nmru_policy a.k a.sets a.blocks.now a.marks.now v.marks c.if-at-last.states c.if-at-last.new c.if-at-last.state v.misses v.i
+    Turned nmru_policy a.k a.sets a.blocks.now a.marks.now v.marks c.if-at-last.states c.if-at-last.last c.if-at-last.state v.misses v.i
 turned_2 c =
     let p = c.requires in
     let a = c.loop-i.invariant.0 in
     let h = home_2 c in
-    ⊎_elim (λ w. turns p a h w.0.true w.2 w.3 w.4) (λ w. stays p a h w.0.false w.1 w.2 w.3) c.if-at-last.branch
+    elim c.if-at-last.branch [ then-at-last w ↦ turns p a h w.if-at-last.true w.states-is w.state-is w.last-is | else-at-last w ↦ stays p a h w.if-at-last.false w.states-is w.state-is w.last-is ]
 
 -- the set that is held apart is that of the access
 turned_3 :
     (c : goal.After-state-in-loop-i-1) →
     let v = c.loop-i in
     let a = c.args in
-    Turned nmru_policy a.k a.sets a.blocks.now a.marks.now v.marks c.if-at-last.states c.if-at-last.new c.if-at-last.state v.misses v.i
+    Turned nmru_policy a.k a.sets a.blocks.now a.marks.now v.marks c.if-at-last.states c.if-at-last.last c.if-at-last.state v.misses v.i
 turned_3 c =
     let p = c.requires in
     let a = c.loop-i.invariant.0 in
     let h = home c in
-    ⊎_elim (λ w. turns p a h w.0.true w.2 w.3 w.4) (λ w. stays p a h w.0.false w.1 w.2 w.3) c.if-at-last.branch
+    elim c.if-at-last.branch [ then-at-last w ↦ turns p a h w.if-at-last.true w.states-is w.state-is w.last-is | else-at-last w ↦ stays p a h w.if-at-last.false w.states-is w.state-is w.last-is ]
 
 pub line_by_bits-line-requires : goal.line_by_bits-line-requires
 line_by_bits-line-requires c =
@@ -89,10 +88,10 @@ nmru-t-requires c =
 as_many : (c : goal.After-state-in-loop-i-1) → length c.if-not-line.guesses ≡ length c.loop-i.guesses
 as_many c =
     let b = get_or c.args.blocks.now c.loop-i.i 0 in
-    ⊎_elim
-    (λ w. ap length w.2 ∙ length-set o.loop-i.guesses (b % 1024) ((c.line_by_bits-line.result.bit % 256 + 127) % 128))
-    (λ w. ap length w.1)
-    c.if-not-line.branch
+    elim c.if-not-line.branch [
+      | then-not-line w ↦ ap length w.guesses-is ∙ length-set c.loop-i.guesses (b % 1024) ((c.line_by_bits-line.result.bit % 256 + 127) % 128)
+      | else-not-line w ↦ ap length w.guesses-is
+    ]
 
 pub loop-i-preserved : goal.loop-i-preserved
 unfolding step

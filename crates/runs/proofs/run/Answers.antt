@@ -1,7 +1,6 @@
 -- `runs::run`: each policy's run is called where the policy is its number, so what it gives is what is asked.
 use native.Mathlib.Omega.{arith}
 use mathlib.Core.Path.{◌≡◌, sym}
-use borrow.Author.Rules.{rules}
 use Rattle.paper.specs.Policies.{tree_policy}
 use Rattle.paper.proofs.Says.{says_true}
 use Rattle.paper.proofs.States.{says_offered}

@@ -1,15 +1,15 @@
 -- `runs::tree_run`: the last set is held apart, and an access keeps what holds of such a run. Nothing is asked of a guess.
-use Prim.Native.Nat.{◌+◌, ◌-◌, ◌%◌, ◌<◌}
+use Prim.Native.Nat.{◌+◌, ◌%◌, ◌<◌}
 use native.Mathlib.Omega.{arith}
 use mathlib.Core.Path.{◌≡◌, refl, ap, ◌∙◌}
-use mathlib.Core.Logic.{⊎_elim}
 use lib.ListN.{length, get_or, length-set}
 use borrow.Author.Rules.{rules}
 use Rattle.paper.specs.Machines.{step}
 use Rattle.paper.specs.Policies.{tree_policy}
 use Rattle.runs.proofs.Going.{Access, sets_ready, access_is, going_end, no_none}
-use Rattle.runs.proofs.Apart.{Apart, Turned, apart_start, stays, turns, apart_legal, apart_more}
+use Rattle.runs.proofs.Apart.{Turned, apart_start, stays, turns, apart_legal, apart_more}
 use Rattle.runs.proofs.tree_run.Goals as goal
+use Rattle.runs.proofs.tree_run.Goals.{then-at-last, else-at-last, then-not-line, else-not-line}
 
 pub home_in-at-requires : goal.home_in-at-requires
 home_in-at-requires c =
@@ -35,24 +35,24 @@ turned :
     (c : goal.After-table-1) →
     let v = c.loop-i in
     let a = c.args in
-    Turned tree_policy a.k a.sets a.blocks.now a.marks.now v.marks c.if-at-last.states c.if-at-last.new c.if-at-last.state v.misses-table v.i
+    Turned tree_policy a.k a.sets a.blocks.now a.marks.now v.marks c.if-at-last.states c.if-at-last.last c.if-at-last.state v.misses v.i
 turned c =
     let p = c.requires in
     let a = c.loop-i.invariant.0 in
     let h = home_2 c in
-    ⊎_elim (λ w. turns p a h w.0.true w.2 w.3 w.4) (λ w. stays p a h w.0.false w.1 w.2 w.3) c.if-at-last.branch
+    elim c.if-at-last.branch [ then-at-last w ↦ turns p a h w.if-at-last.true w.states-is w.state-is w.last-is | else-at-last w ↦ stays p a h w.if-at-last.false w.states-is w.state-is w.last-is ]
 
 -- the set that is held apart is that of the access
 turned_2 :
     (c : goal.After-state-in-loop-i-1) →
     let v = c.loop-i in
     let a = c.args in
-    Turned tree_policy a.k a.sets a.blocks.now a.marks.now v.marks c.if-at-last.states c.if-at-last.new c.if-at-last.state v.misses-table v.i
+    Turned tree_policy a.k a.sets a.blocks.now a.marks.now v.marks c.if-at-last.states c.if-at-last.last c.if-at-last.state v.misses v.i
 turned_2 c =
     let p = c.requires in
     let a = c.loop-i.invariant.0 in
     let h = home c in
-    ⊎_elim (λ w. turns p a h w.0.true w.2 w.3 w.4) (λ w. stays p a h w.0.false w.1 w.2 w.3) c.if-at-last.branch
+    elim c.if-at-last.branch [ then-at-last w ↦ turns p a h w.if-at-last.true w.states-is w.state-is w.last-is | else-at-last w ↦ stays p a h w.if-at-last.false w.states-is w.state-is w.last-is ]
 
 pub line-line-requires : goal.line-line-requires
 line-line-requires c =
@@ -63,16 +63,20 @@ line-line-requires c =
 pub step-t-requires : goal.step-t-requires
 step-t-requires c =
     let p = c.requires in
-    record { k_value = p.offers; state_value = apart_legal p (turned c.before.before.before.before.before.before.before); line_value = c.line-line.ensures; misses_value = c.misses-table.ensures; ones_value = c.ones-ones.ensures; zeros_value = c.zeros-zeros.ensures }
+    let a = c.loop-i.invariant.0 in
+    let h : Access c.args.sets c.args.blocks.now c.loop-i.i c.home_in-at.result = access_is p _ c.sets_of-all.ensures (omega arith) c.home_in-at.ensures.value c.home_in-at.ensures.upper_bound in
+    let u : Turned tree_policy c.args.k c.args.sets c.args.blocks.now c.args.marks.now c.loop-i.marks c.if-at-last.states c.if-at-last.last c.if-at-last.state c.loop-i.misses c.loop-i.i =
+    elim c.if-at-last.branch [ then-at-last w ↦ turns p a h w.if-at-last.true w.states-is w.state-is w.last-is | else-at-last w ↦ stays p a h w.if-at-last.false w.states-is w.state-is w.last-is ] in
+    record { k_value = p.offers; state_value = apart_legal p u; line_value = c.line-line.ensures; misses_value = c.misses-table.ensures; ones_value = c.ones-ones.ensures; zeros_value = c.zeros-zeros.ensures }
 
 -- as many guesses as before
 as_many : (c : goal.After-state-in-loop-i-1) → length c.if-not-line.guesses ≡ length c.loop-i.guesses
 as_many c =
     let b = get_or c.args.blocks.now c.loop-i.i 0 in
-    ⊎_elim
-    (λ w. ap length w.2 ∙ length-set o.loop-i.guesses (b % 1024) ((c.line-line.result.bit % 256 + 127) % 128))
-    (λ w. ap length w.1)
-    c.if-not-line.branch
+    elim c.if-not-line.branch [
+      | then-not-line w ↦ ap length w.guesses-is ∙ length-set c.loop-i.guesses (b % 1024) ((c.line-line.result.bit % 256 + 127) % 128)
+      | else-not-line w ↦ ap length w.guesses-is
+    ]
 
 pub bounds-marks-i : goal.bounds-marks-i
 bounds-marks-i c =

@@ -1,7 +1,6 @@
 -- There is room at both places (`Open`), so that neither sum wraps.
 use native.Mathlib.Omega.{arith}
 use mathlib.Core.Path.{refl}
-use borrow.Author.Rules.{rules}
 use Rattle.charge.proofs.amounts.add.Goals as goal
 
 pub overflow_add-whole : goal.overflow_add-whole

@@ -1,5 +1,5 @@
 -- A node becomes the last of its bucket, and keeps the one that was.
-use Prim.Native.Nat.{◌-◌, ◌%◌, ◌≤◌, ◌<◌}
+use Prim.Native.Nat.{◌%◌, ◌<◌}
 use native.Mathlib.Omega.{arith}
 use mathlib.Core.Path.{refl, ap}
 use Rattle.paper.specs.Files.{case_of}

@@ -2,12 +2,11 @@
 use Prim.Native.Nat.{◌-◌, ◌%◌, ◌<◌}
 use native.Mathlib.Omega.{arith}
 use mathlib.Core.Path.{refl, ◌∙◌}
-use borrow.Author.Rules.{rules}
 use Rattle.paper.specs.Files.{case_of}
 use Rattle.charge.specs.Chained.{bucket}
 use Rattle.charge.specs.Sizes as Sizes
 use Rattle.charge.proofs.Buckets.{chain_low}
-use Rattle.charge.proofs.Following.{Following, following_start, following_more, following_end}
+use Rattle.charge.proofs.Following.{following_start, following_more, following_end}
 use Rattle.charge.proofs.chains.cover_nodes.Goals as goal
 
 pub loop-c-init : goal.loop-c-init

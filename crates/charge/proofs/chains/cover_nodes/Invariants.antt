@@ -1,13 +1,6 @@
 -- The chain has every node of b's bucket from the last to the first, so what it passes over does not fetch b.
-use Prim.Native.Nat.{◌-◌, ◌%◌, ◌<◌}
-use native.Mathlib.Omega.{arith}
-use mathlib.Core.Path.{refl, ◌∙◌}
-use borrow.Author.Rules.{rules}
 use Rattle.paper.specs.Files.{case_of}
-use Rattle.charge.specs.Chained.{bucket}
-use Rattle.charge.specs.Sizes as Sizes
-use Rattle.charge.proofs.Buckets.{chain_low}
-use Rattle.charge.proofs.Following.{Following, following_start, following_more, following_end}
+use Rattle.charge.proofs.Following.{Following}
 use Rattle.charge.proofs.chains.cover_nodes.Given as goal
 
 abbrev pub invariant-loop-c : goal.invariant-loop-c

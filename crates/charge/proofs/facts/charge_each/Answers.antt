@@ -1,10 +1,9 @@
 -- The facts stand one after the other: each turn adds one, and the next begins where it ends.
-use Prim.Native.Nat.{◌-◌, ◌<◌}
+use Prim.Native.Nat.{◌<◌}
 use native.Mathlib.Omega.{arith}
-use borrow.Author.Rules.{rules}
 use Rattle.paper.specs.Files.{fact_place}
 use Rattle.charge.specs.Sizes as Sizes
-use Rattle.charge.proofs.Adding.{Adding, head_at, end_at_lem, adding_limits, adding_open, adding_more, adding_end}
+use Rattle.charge.proofs.Adding.{head_at, end_at_lem, adding_limits, adding_open, adding_more, adding_end}
 use Rattle.charge.proofs.facts.charge_each.Goals as goal
 
 pub loop-i-init : goal.loop-i-init

@@ -2,7 +2,6 @@
 use Prim.Native.Nat.{◌≤◌}
 use native.Mathlib.Omega.{arith}
 use mathlib.Core.Path.{◌≡◌, ap}
-use borrow.Author.Rules.{rules}
 use Rattle.paper.specs.Files.{u16_at, fact_at, case_of}
 use Rattle.formulas.specs.Largest.{largest_visits}
 use Rattle.charge.specs.Tables.{head_of}
@@ -29,7 +28,7 @@ pub bound_of-requires : goal.bound_of-requires
 unfolding case_of head_of
 bound_of-requires c =
     let s = c.requires.sound_head in
-    let el = ap (λ (k : Head). k.limit) h.head_at-h.ensures in
+    let el = ap (λ (k : Head). k.limit) c.head_at-h.ensures in
     let low : c.entered-x.result ≤ largest_visits = omega (arith, c.entered-x.ensures, c.cover_nodes-n.ensures.upper_bound) in
     record { l_le_k = omega (arith, el, s.high); k_bound = c.requires.ready.laid.ways_high; e_bound = low; n_bound = c.cover_nodes-n.ensures.upper_bound }
 

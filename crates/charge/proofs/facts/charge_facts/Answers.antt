@@ -1,5 +1,4 @@
 -- The tables begin empty, are filled for all loops and all nodes, and are lent to the pass over the facts.
-use borrow.Author.Rules.{rules}
 use Rattle.charge.proofs.Buckets.{chained_start}
 use Rattle.charge.proofs.LoopsOut.{outers_start}
 use Rattle.charge.proofs.facts.charge_facts.Goals as goal

@@ -3,7 +3,6 @@ use Prim.Native.Nat.{◌≤◌, ◌<◌}
 use native.Mathlib.Omega.{arith}
 use mathlib.Core.Path.{◌≡◌, ◌∙◌}
 use mathlib.Core.Logic.{◌≢◌}
-use borrow.Author.Rules.{rules}
 use lib.ListN.{length}
 use Rattle.paper.specs.Machines.{none}
 use Rattle.paper.specs.Cases.{size}
@@ -24,7 +23,7 @@ scope : (c : goal.After-limit_at-limit) → c.scope_at-scope.result ≢ none →
 scope c = scope_low _ _ _ _ c.scope_at-scope.ensures c.requires.sound_head
 
 fits : (c : goal.After-range_at-range) → (c.range_at-range.result.first ≤ c.range_at-range.result.last) × (c.range_at-range.result.last < c.args.trailer.nodes)
-fits c = scope_fits _ _ _ _ _ c.requires.ready (scope c.before) c.range_at-range.ensures
+fits c = scope_fits _ _ _ _ _ c.requires.ready (scope_low _ _ _ _ c.scope_at-scope.ensures c.requires.sound_head) c.range_at-range.ensures
 
 next : (c : goal.After-fact_end) →
     let a = c.args in

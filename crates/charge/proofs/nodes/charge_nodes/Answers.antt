@@ -1,11 +1,10 @@
 -- A node is added with the least limit that covers it, and with 0 where it fetches nothing.
-use Prim.Native.Nat.{◌-◌, ◌<◌}
+use Prim.Native.Nat.{◌<◌}
 use native.Mathlib.Omega.{arith}
-use borrow.Author.Rules.{rules}
 use Rattle.paper.specs.Files.{case_of}
 use Rattle.charge.specs.Sizes as Sizes
 use Rattle.charge.proofs.Cover.{covered_limits}
-use Rattle.charge.proofs.Walking.{Walking, walking_open, walking_more, walking_end}
+use Rattle.charge.proofs.Walking.{walking_open, walking_more, walking_end}
 use Rattle.charge.proofs.nodes.charge_nodes.Goals as goal
 
 low : (c : goal.After-node_at-b) → c.loop-v.v < Sizes.nodes

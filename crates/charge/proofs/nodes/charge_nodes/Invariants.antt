@@ -1,11 +1,6 @@
 -- A node is added with the least limit that covers it, and with 0 where it fetches nothing.
-use Prim.Native.Nat.{◌-◌, ◌<◌}
-use native.Mathlib.Omega.{arith}
-use borrow.Author.Rules.{rules}
-use Rattle.paper.specs.Files.{case_of}
-use Rattle.charge.specs.Sizes as Sizes
-use Rattle.charge.proofs.Cover.{covered_limits}
-use Rattle.charge.proofs.Walking.{Walking, walking_open, walking_more, walking_end}
+use Prim.Native.Nat.{◌-◌}
+use Rattle.charge.proofs.Walking.{Walking}
 use Rattle.charge.proofs.nodes.charge_nodes.Given as goal
 
 abbrev pub invariant-loop-v : goal.invariant-loop-v

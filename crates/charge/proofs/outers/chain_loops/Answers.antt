@@ -1,5 +1,5 @@
 -- One loop more at each turn; the loops before it are in the table already.
-use Prim.Native.Nat.{◌-◌, ◌≤◌, ◌<◌}
+use Prim.Native.Nat.{◌<◌}
 use native.Mathlib.Omega.{arith}
 use Rattle.paper.specs.Files.{case_of}
 use Rattle.charge.specs.NextOut.{Outers}

@@ -1,11 +1,7 @@
 -- One loop more at each turn; the loops before it are in the table already.
-use Prim.Native.Nat.{◌-◌, ◌≤◌, ◌<◌}
-use native.Mathlib.Omega.{arith}
+use Prim.Native.Nat.{◌-◌, ◌≤◌}
 use Rattle.paper.specs.Files.{case_of}
 use Rattle.charge.specs.NextOut.{Outers}
-use Rattle.charge.specs.Sizes as Sizes
-use Rattle.charge.proofs.LoopsOut.{outers_more}
-use Rattle.charge.proofs.SmallSums.{at_end}
 use Rattle.charge.proofs.outers.chain_loops.Given as goal
 
 abbrev pub invariant-loop-j : goal.invariant-loop-j

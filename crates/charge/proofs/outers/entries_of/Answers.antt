@@ -1,6 +1,5 @@
 -- The whole graph is entered once; a loop at most as often as the header of the next loop out is visited, and at most W times.
 use mathlib.Core.Path.{◌∙◌}
-use borrow.Author.Rules.{rules}
 use Rattle.charge.proofs.Entries.{entries_whole, entries_loop}
 use Rattle.charge.proofs.outers.entries_of.Goals as goal
 

@@ -1,10 +1,6 @@
 -- Every loop that is passed over ends before the header, so the first that does not is the last that contains it.
-use Prim.Native.Nat.{◌-◌, ◌<◌}
-use native.Mathlib.Omega.{arith}
-use lib.ListN.{get_or}
 use Rattle.paper.specs.Files.{case_of}
-use Rattle.charge.specs.Sizes as Sizes
-use Rattle.charge.proofs.LoopsOut.{Passing, passing_start, passing_low, passing_found, passing_more, passing_end}
+use Rattle.charge.proofs.LoopsOut.{Passing}
 use Rattle.charge.proofs.outers.next_out.Given as goal
 
 abbrev pub invariant-loop-c : goal.invariant-loop-c

@@ -2,7 +2,6 @@
 use Prim.Native.Nat.{◌<◌}
 use native.Mathlib.Omega.{arith}
 use mathlib.Core.Path.{◌≡◌}
-use borrow.Author.Rules.{rules}
 use lib.ListN.{get_or}
 use Rattle.paper.specs.Files.{loop_at, case_of}
 use Rattle.paper.specs.Graphs.{outer}
@@ -41,4 +40,4 @@ pub overflow_cast-result : goal.overflow_cast-result
 overflow_cast-result c = omega (arith, c.shared_slice_known-2-1.given c.loop_at-header.result.first)
 
 pub returns : goal.returns
-returns-then-c-eq0 c = (header_2 c).1
+returns c = (header_2 c).1

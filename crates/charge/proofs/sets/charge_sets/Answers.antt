@@ -1,14 +1,10 @@
 -- Each set's bound is written and added; the total is the sum.
-use Prim.Native.Nat.{◌-◌, ◌<◌}
+use Prim.Native.Nat.{◌<◌}
 use native.Mathlib.Omega.{arith}
-use borrow.Author.Rules.{rules}
 use lib.ListN.{length-set}
-use Rattle.paper.specs.Bounds.{set_bound}
 use Rattle.paper.specs.Files.{case_of}
-use Rattle.paper.proofs.Sums.{Added, added_start, added_more}
-use Rattle.formulas.specs.Largest.{largest_a}
+use Rattle.paper.proofs.Sums.{added_start, added_more}
 use Rattle.charge.specs.Sizes as Sizes
-use Rattle.charge.specs.Tables.{Part}
 use Rattle.charge.proofs.PartLaws.{part_set, part_total}
 use Rattle.charge.proofs.sets.charge_sets.Goals as goal
 

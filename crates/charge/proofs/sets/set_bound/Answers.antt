@@ -1,7 +1,6 @@
 -- A is in the tables, and small; where the policy has floors, the least of them too.
 use native.Mathlib.Omega.{arith}
 use mathlib.Core.Path.{sym, ◌∙◌}
-use borrow.Author.Rules.{rules}
 use Rattle.charge.proofs.FloorSums.{A_small, floor_set, other_set}
 use Rattle.charge.proofs.sets.set_bound.Goals as goal
 

@@ -1,5 +1,4 @@
 -- The bits are below the policy's number.
-use borrow.Author.Rules.{rules}
 use Rattle.paper.specs.Machines.{legal_bits}
 use Rattle.machine.proofs.legality.has_legal_bits.Goals as goal
 

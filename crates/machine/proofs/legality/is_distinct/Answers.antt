@@ -1,14 +1,13 @@
 -- The lines looked at stand nowhere after themselves (`distinct_on`); one that does ends the look.
-use Prim.Native.Nat.{◌-◌, ◌≤◌, ◌<◌}
+use Prim.Native.Nat.{◌<◌}
 use native.Mathlib.Omega.{arith}
 use native.Mathlib.Numerals.{add-one}
-use mathlib.Core.Path.{◌≡◌, refl, sym, ◌∙◌}
-use mathlib.Core.Logic.{⊎_elim}
-use lib.ListN.{length, drop}
+use mathlib.Core.Path.{refl, sym, ◌∙◌}
+use lib.ListN.{length}
 use borrow.Author.Rules.{rules}
-use Rattle.paper.specs.Machines.{distinct}
 use Rattle.machine.proofs.Search.{distinct_empty, distinct_on, distinct_not, distinct_end}
 use Rattle.machine.proofs.legality.is_distinct.Goals as goal
+use Rattle.machine.proofs.legality.is_distinct.Goals.{then-b+else-stands_from, else-b}
 
 pub returns-then-stands_from : goal.returns-then-stands_from
 returns-then-stands_from c =
@@ -21,7 +20,7 @@ loop-i-preserved c =
     let h : i < length l = omega arith in (
       omega arith,
       c.loop-i.invariant.1
-          ∙ rw add-one (⊎_elim (λ w. distinct_on l i h w.0.true (rw add-one at (sym w.1.ensures ∙ w.2.false))) (λ w. distinct_empty l i h w.false) c.if-b.branch),
+          ∙ rw add-one (elim c.if-b.branch [ then-b+else-stands_from w ↦ distinct_on l i h w.if-b.true (rw add-one at (sym w.stands_from.ensures ∙ w.if-stands_from.false)) | else-b w ↦ distinct_empty l i h w.if-b.false ]),
     )
 
 pub returns : goal.returns

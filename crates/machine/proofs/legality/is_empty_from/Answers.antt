@@ -1,11 +1,8 @@
 -- The lines looked at are empty (`empty_on`); one that is not ends the look.
-use Prim.Native.Nat.{◌-◌, ◌≤◌}
 use native.Mathlib.Omega.{arith}
 use native.Mathlib.Numerals.{add-one}
-use mathlib.Core.Path.{◌≡◌, refl, sym, ◌∙◌}
-use lib.ListN.{drop}
+use mathlib.Core.Path.{refl, sym, ◌∙◌}
 use borrow.Author.Rules.{rules}
-use Rattle.paper.specs.Machines.{empty}
 use Rattle.machine.proofs.Search.{empty_not, empty_on, empty_end}
 use Rattle.machine.proofs.legality.is_empty_from.Goals as goal
 

@@ -1,6 +1,5 @@
 -- The three tests of a legal state, in the definition's order.
 use Rattle.paper.specs.Machines.{legal}
-use borrow.Author.Rules.{rules}
 use Rattle.machine.proofs.legality.is_legal.Goals as goal
 
 pub returns : goal.returns
