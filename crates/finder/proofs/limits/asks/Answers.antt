@@ -1,0 +1,15 @@
+-- `finder::limits::asks`: the one comparison decides.
+use native.Mathlib.Numerals.{add-one}
+use mathlib.Core.Path.{refl}
+use borrow.Author.Rules.{rules}
+use borrow.Author.Tests.{eq-eqb, ne_eqb}
+use Rattle.search.specs.Passes.{asks}
+use Rattle.finder.proofs.limits.asks.Goals as goal
+
+pub returns-then-n-eq9 : goal.returns-then-n-eq9
+unfolding asks
+returns-then-n-eq9 c = rw (eq-eqb _ _ c.if-n-eq9.true) refl
+
+pub returns : goal.returns
+unfolding asks
+returns c = rw (ne_eqb _ _ c.if-n-eq9.false) (add-one _)

@@ -1,0 +1,13 @@
+-- `lists::rows::bad_rows`: the first bad row stops the loop; before it none was bad.
+use Prim.Native.Nat.{◌-◌}
+use borrow.Author.Rules.{rules}
+use Rattle.paper.specs.Facts.{bad_row_at}
+use Rattle.paper.proofs.Least.{Passed, passed_start, passed_more, least_found, least_end}
+use Rattle.lists.specs.Listed.{fact_of, row_case}
+use Rattle.lists.proofs.rows.bad_rows.Given as goal
+
+abbrev pub invariant-loop-j : goal.invariant-loop-j
+invariant-loop-j l = Passed (bad_row_at (row_case l.trailer) (fact_of l.rows l.h)) l.n l.j
+
+abbrev pub decreases-loop-j : goal.decreases-loop-j
+decreases-loop-j l = l.n - l.j

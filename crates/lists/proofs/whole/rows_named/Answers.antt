@@ -1,0 +1,18 @@
+-- `lists::whole::rows_named_lem` adds what the heads name.
+use Prim.Native.Nat.{◌+◌, ◌-◌, ◌*◌}
+use borrow.Author.Rules.{rules}
+use lib.ListN.{get_or}
+use Rattle.paper.proofs.Sums.{Added, added_start, added_more, added_end}
+use Rattle.lists.proofs.whole.rows_named.Goals as goal
+
+pub loop-i-preserved : goal.loop-i-preserved
+loop-i-preserved c =
+    added_more _ _ _ _ _ _ c.loop-i.invariant c.loop-i-test.true c.wide-sum.ensures.value c.wide-sum.ensures.upper_bound
+
+pub loop-i-init : goal.loop-i-init
+loop-i-init c = added_start _ _ _
+
+pub returns : goal.returns
+returns c =
+    let r = added_end _ _ _ _ _ c.loop-i.invariant c.loop-i-test.false in
+    record { value = r.0; upper_bound = r.1 }

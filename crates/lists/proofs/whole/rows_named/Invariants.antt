@@ -1,0 +1,12 @@
+-- `lists::whole::rows_named_lem` adds what the heads name.
+use Prim.Native.Nat.{◌+◌, ◌-◌, ◌*◌}
+use borrow.Author.Rules.{rules}
+use lib.ListN.{get_or}
+use Rattle.paper.proofs.Sums.{Added, added_start, added_more, added_end}
+use Rattle.lists.proofs.whole.rows_named.Given as goal
+
+abbrev pub invariant-loop-i : goal.invariant-loop-i
+invariant-loop-i l = Added (λ k. get_or l.heads (4 * k + 3) 0) 65535 l.n l.sum l.i
+
+abbrev pub decreases-loop-i : goal.decreases-loop-i
+decreases-loop-i l = l.n - l.i
