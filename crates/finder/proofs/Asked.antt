@@ -24,8 +24,8 @@ use Rattle.paper.specs.Rules.{rule}
 use Rattle.paper.specs.Verdicts.{head_rule, fetch_rule}
 use Rattle.paper.proofs.FactLaws.{head_sound}
 use Rattle.gather.specs.declared.Sought.{Sought}
-use Rattle.gather.specs.Seeking.{Ready, Seeks}
-use Rattle.finder.specs.Scopes.{fact_by, nodes_by, Scoped}
+use Rattle.gather.specs.Seeking.{Seeks}
+use Rattle.finder.specs.Scopes.{fact_by, Scoped}
 
 module _ (f : List ℕ) (trailer : Trailer) where
   pub sets_ready : Laid f trailer → (s : Sets) → s ≡ sets_of trailer.sets → ((0 < s.count) × (s.count ≤ 64)) × (s ≡ sets_of s.count)

@@ -1,5 +1,5 @@
 -- Rows of a table, read and put, and rows put one after another.
-use Prim.Native.Nat.{ℕ, suc, ◌+◌, ◌*◌, ◌≤◌, ◌<◌}
+use Prim.Native.Nat.{ℕ, ◌+◌, ◌*◌, ◌≤◌, ◌<◌}
 use native.Mathlib.Omega.{arith}
 use native.Mathlib.Decide.{ℕ_discrete}
 use native.Mathlib.Numerals.{add-one, unary_clauses}
@@ -9,7 +9,7 @@ use lib.ListN.{length, get_or, set, drop, length-append, length-drop}
 use Rattle.lines.specs.Lines.{eight}
 use Rattle.lines.proofs.Eight.{made_of}
 use Rattle.paper.specs.Lists.{each}
-use Rattle.search.specs.Steps.{plain_at, plain, lowered}
+use Rattle.search.specs.Steps.{plain, lowered}
 use Rattle.search.specs.Passes.{table_row, with_row}
 use Rattle.search.proofs.Tables.{with_length, with_is, with_others}
 use Rattle.search.proofs.Found.{each_length, rows_more, lowered_long}

@@ -6,7 +6,7 @@ use mathlib.Core.Path.{◌≡◌, ◌∙◌, ap}
 use mathlib.Core.List.{List, append-nil}
 use lib.ListN.{length, get_or, set, replicate}
 use Rattle.lines.specs.Lines.{weight_of}
-use Rattle.paper.specs.Lists.{sum_to, table}
+use Rattle.paper.specs.Lists.{sum_to}
 use Rattle.paper.specs.Machines.{empty_set}
 use Rattle.paper.specs.AllWays.{misses_with}
 use Rattle.paper.proofs.TableLaws.{Written, written_start, written_more, written_end}

@@ -14,7 +14,7 @@ use Rattle.lines.specs.Lines.{weight_of, weighed}
 use Rattle.paper.specs.declared.SetState.{SetState}
 use Rattle.paper.specs.declared.Stepped.{Stepped}
 use Rattle.paper.specs.Lists.{bit}
-use Rattle.paper.specs.Machines.{none, empty_set, line_of, step}
+use Rattle.paper.specs.Machines.{empty_set, line_of, step}
 use Rattle.paper.specs.Policies.{lru_policy}
 use Rattle.paper.specs.Ready.{Ready}
 use Rattle.paper.specs.Traces.{Content, after}

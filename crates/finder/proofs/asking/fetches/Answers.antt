@@ -1,5 +1,4 @@
 -- `finder::asking::fetches`: the node's block is compared with the one that is sought.
-use borrow.Author.Rules.{rules}
 use Rattle.paper.specs.Files.{case_of}
 use Rattle.finder.proofs.Asked.{fetches_is}
 use Rattle.finder.proofs.asking.fetches.Goals as goal

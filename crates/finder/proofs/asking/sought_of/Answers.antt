@@ -1,6 +1,5 @@
 -- `finder::asking::sought_of`: what is read of the file says what is sought.
 use mathlib.Core.Path.{refl}
-use borrow.Author.Rules.{rules}
 use Rattle.finder.proofs.Asked.{sets_ready, scoped}
 use Rattle.finder.proofs.asking.sought_of.Goals as goal
 

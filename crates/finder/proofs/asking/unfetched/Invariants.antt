@@ -1,12 +1,9 @@
 -- `finder::asking::unfetched`: the loop stops at a node that fetches b; where it ends, none did (`Passed`).
 use Prim.Native.Nat.{◌-◌}
-use native.Mathlib.Omega.{arith}
-use borrow.Author.Rules.{rules}
 use Rattle.paper.specs.Cases.{fetches}
 use Rattle.paper.specs.Files.{case_of}
-use Rattle.paper.proofs.Least.{Passed, passed_start, passed_more, some_found, some_end}
+use Rattle.paper.proofs.Least.{Passed}
 use Rattle.finder.specs.Scopes.{fact_by}
-use Rattle.finder.proofs.Asked.{unfetched_is}
 use Rattle.finder.proofs.asking.unfetched.Given as goal
 
 abbrev pub invariant-loop-j : goal.invariant-loop-j

@@ -1,7 +1,6 @@
 -- `finder::limits::asks`: the one comparison decides.
 use native.Mathlib.Numerals.{add-one}
 use mathlib.Core.Path.{refl}
-use borrow.Author.Rules.{rules}
 use borrow.Author.Tests.{eq-eqb, ne_eqb}
 use Rattle.search.specs.Passes.{asks}
 use Rattle.finder.proofs.limits.asks.Goals as goal

@@ -1,12 +1,11 @@
 -- `finder::limits::lend_rows`: a row after another (`Lending`).
-use Prim.Native.Nat.{◌*◌, ◌-◌, ◌≤◌}
+use Prim.Native.Nat.{◌*◌, ◌≤◌}
 use native.Mathlib.Omega.{arith}
 use mathlib.Core.Path.{◌∙◌, ap}
 use lib.ListN.{length}
-use borrow.Author.Rules.{rules}
 use Rattle.search.specs.Steps.{lowered}
 use Rattle.search.specs.Passes.{rows_found}
-use Rattle.finder.proofs.Rows.{Lending, lending_start, lending_kept, lending_more, lending_end}
+use Rattle.finder.proofs.Rows.{lending_start, lending_kept, lending_more, lending_end}
 use Rattle.finder.proofs.limits.lend_rows.Goals as goal
 
 -- where the nodes were counted there is room for their rows

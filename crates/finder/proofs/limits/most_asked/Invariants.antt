@@ -1,10 +1,8 @@
 -- `finder::limits::most_asked`: a node after another (`Asking`).
 use Prim.Native.Nat.{◌-◌}
-use native.Mathlib.Omega.{arith}
-use borrow.Author.Rules.{rules}
 use Rattle.paper.specs.Files.{case_of}
 use Rattle.finder.specs.Scopes.{fact_by}
-use Rattle.finder.proofs.Passing.{Asking, asking_start, asking_more, asking_end}
+use Rattle.finder.proofs.Passing.{Asking}
 use Rattle.finder.proofs.limits.most_asked.Given as goal
 
 abbrev pub invariant-loop-j : goal.invariant-loop-j

@@ -3,7 +3,6 @@ use Prim.Native.Nat.{max}
 use Prim.Native.Nat.{ℕ}
 use mathlib.Core.Path.{refl, ◌∙◌, ap}
 use mathlib.Core.List.{List}
-use borrow.Author.Rules.{rules}
 use Rattle.search.specs.Steps.{number_of}
 use Rattle.search.specs.Passes.{asks}
 use Rattle.finder.proofs.Passing.{row_low}
@@ -15,7 +14,7 @@ asks-requires c =
 
 pub returns-then-fetches : goal.returns-then-fetches
 returns-then-fetches c =
-    rw (← c.fetches.ensures, c.if-fetches.true) (c.greater.ensures ∙ ap (max _) (c.asks.ensures ∙ ap (λ (x : List ℕ). asks (number_of x)) r.row_of-r.ensures))
+    rw (← c.fetches.ensures, c.if-fetches.true) (c.greater.ensures ∙ ap (max _) (c.asks.ensures ∙ ap (λ (x : List ℕ). asks (number_of x)) c.row_of-r.ensures))
 
 pub returns : goal.returns
 returns c = rw (← c.fetches.ensures, c.if-fetches.false) refl

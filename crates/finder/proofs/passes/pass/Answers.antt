@@ -1,9 +1,6 @@
 -- `finder::passes::pass`: one edge after another (`Passing`).
-use Prim.Native.Nat.{◌-◌}
-use borrow.Author.Rules.{rules}
 use Rattle.paper.specs.Files.{case_of}
-use Rattle.finder.specs.Scopes.{fact_by}
-use Rattle.finder.proofs.Passing.{Passing, passing_start, passing_more, passing_searched, passing_end}
+use Rattle.finder.proofs.Passing.{passing_start, passing_more, passing_searched, passing_end}
 use Rattle.finder.proofs.passes.pass.Goals as goal
 
 pub take_edge-changed-requires : goal.take_edge-changed-requires

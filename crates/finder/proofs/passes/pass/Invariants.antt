@@ -1,9 +1,8 @@
 -- `finder::passes::pass`: one edge after another (`Passing`).
 use Prim.Native.Nat.{◌-◌}
-use borrow.Author.Rules.{rules}
 use Rattle.paper.specs.Files.{case_of}
 use Rattle.finder.specs.Scopes.{fact_by}
-use Rattle.finder.proofs.Passing.{Passing, passing_start, passing_more, passing_searched, passing_end}
+use Rattle.finder.proofs.Passing.{Passing}
 use Rattle.finder.proofs.passes.pass.Given as goal
 
 abbrev pub invariant-loop-i : goal.invariant-loop-i

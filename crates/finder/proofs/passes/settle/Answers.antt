@@ -1,9 +1,5 @@
 -- `finder::passes::settle`: a pass that changes the table leaves less to do; one that does not leaves it settled.
-use Prim.Native.Nat.{◌*◌, ◌-◌}
-use borrow.Author.Rules.{rules}
 use Rattle.paper.specs.Files.{case_of}
-use Rattle.search.proofs.Searching.{Searched, measure}
-use Rattle.finder.specs.Scopes.{fact_by, nodes_by}
 use Rattle.finder.proofs.Passing.{pass_searched, pass_less, pass_settled}
 use Rattle.finder.proofs.passes.settle.Goals as goal
 

@@ -1,5 +1,4 @@
 -- `finder::table::row_of`: the eight numbers of the row.
-use borrow.Author.Rules.{rules}
 use Rattle.finder.proofs.Rows.{read_row}
 use Rattle.finder.proofs.table.row_of.Goals as goal
 

@@ -1,8 +1,6 @@
 -- `finder::table::start`: one row more in each turn (`Nines`).
-use Prim.Native.Nat.{◌-◌}
 use native.Mathlib.Omega.{arith}
-use borrow.Author.Rules.{rules}
-use Rattle.finder.proofs.Rows.{Nines, nines_start, nines_more}
+use Rattle.finder.proofs.Rows.{nines_start, nines_more}
 use Rattle.finder.proofs.table.start.Goals as goal
 
 -- there is room for the row
