@@ -9,11 +9,6 @@ use Rattle.paper.specs.Verdicts.{shape_rules, path_rules, count_rules, graph_rul
 use Rattle.paper.proofs.RuleLaws.{accepted_on, refused_on}
 use Rattle.paper.proofs.VerdictLaws.{shape_kept, hands_shape, hands_paths}
 
--- a verdict that refuses nothing
-pub unrefused : (v : Verdict) → ((r : Refusal) → ¬ (v ≡ Refused r)) → v ≡ Accepted
-unrefused Accepted n = refl
-unrefused (Refused r) n = absurd (n r refl)
-
 -- the shape's verdict is v
 module _ (e : Case) (v : Verdict) (a : v ≡ shape_rules e Accepted) where
   pub shape_refused : (r : Refusal) → v ≡ Refused r → Refused r ≡ graph_rules e Accepted

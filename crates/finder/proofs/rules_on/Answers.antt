@@ -1,5 +1,4 @@
 -- `finder::rules_on` answers as the graph's rules where they refuse, else as those of what is sought.
-use Rattle.graph.proofs.GraphChains.{unrefused}
 use Rattle.finder.proofs.Ends.{graph_refused, graph_shaped, sought_decides}
 use Rattle.finder.proofs.rules_on.Goals as goal
 
@@ -9,8 +8,8 @@ returns-in-Refused c =
 
 pub sought_rules-requires : goal.sought_rules-requires
 sought_rules-requires c =
-    record { laid = c.requires; shaped = graph_shaped _ _ c.graph_rules-graph.ensures.value (unrefused _ c.in_default.not-Refused) }
+    record { laid = c.requires; shaped = graph_shaped _ _ c.graph_rules-graph.ensures.value c.in_default.is }
 
 pub returns : goal.returns
 returns c =
-    sought_decides _ _ c.graph_rules-graph.ensures.value (unrefused _ c.in_default.not-Refused) _ _ c.sought_rules.ensures
+    sought_decides _ _ c.graph_rules-graph.ensures.value c.in_default.is _ _ c.sought_rules.ensures

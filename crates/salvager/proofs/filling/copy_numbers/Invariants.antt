@@ -1,0 +1,11 @@
+-- `salvager::filling::copy_numbers` puts one number after another: after i of them the others are left.
+use Prim.Native.Nat.{◌-◌}
+use borrow.Author.Rules.{rules}
+use Rattle.salvager.proofs.Copied.{Copied, copied_start, numbers_more, numbers_end}
+use Rattle.salvager.proofs.filling.copy_numbers.Given as goal
+
+abbrev pub invariant-loop-i : goal.invariant-loop-i
+invariant-loop-i l = Copied l.initial.list 0 l.whys 0 l.n l.list l.i
+
+abbrev pub decreases-loop-i : goal.decreases-loop-i
+decreases-loop-i l = l.n - l.i
