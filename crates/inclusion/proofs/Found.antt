@@ -71,5 +71,8 @@ module _ (sets w : ℕ) (low : 1 ≤ w) (high : w ≤ 8) where
 
 -- "no count is larger than that for one way less"
 pub fewer : (sets w : ℕ) → 1 ≤ w → suc w ≤ 8 → (bs : List ℕ) → misses_with sets bs (suc w) ≤ misses_with sets bs w
-unfolding sum_to
-fewer sets w low high bs = omega (arith, ways_found sets w low (omega arith) bs, ways_found sets (suc w) (omega arith) high bs)
+unfolding sum_to misses_with
+fewer sets w low high bs = omega (arith, all_found w low (omega arith), all_found (suc w) (omega arith) high)
+  where
+    all_found : (w : ℕ) (low : 1 ≤ w) (high : w ≤ 8) → misses_with sets bs w + sum_to (found_at sets (λ q. empty_set) bs) w ≡ length bs
+    all_found w low high = firsts_found sets w low high (λ q. empty_set) (λ q. empty_set) (λ q. first_empty w low high) bs

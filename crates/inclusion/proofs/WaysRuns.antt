@@ -11,7 +11,7 @@ use Rattle.paper.specs.declared.Verdict.TheVariants.{Accepted, Refused}
 use Rattle.paper.specs.declared.TraceAnswer.{TraceAnswer}
 use Rattle.paper.specs.declared.TraceAnswer.TheVariants as TraceAnswers
 use Rattle.paper.specs.Answers.{refuse}
-use Rattle.paper.specs.Lists.{table, least, some}
+use Rattle.paper.specs.Lists.{least, some}
 use Rattle.paper.specs.Machines.{empty_set, set_count, in_range}
 use Rattle.paper.specs.Policies.{lru_policy}
 use Rattle.paper.specs.Traces.{bad_access, refused_run, took_run, marks, total, trace_run}

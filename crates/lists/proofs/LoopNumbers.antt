@@ -7,7 +7,6 @@ use mathlib.Core.List.{List}
 use lib.Dec.{leb, ltb}
 use lib.ListN.{length, get_or}
 use Rattle.paper.specs.declared.Loop.{Loop}
-use Rattle.paper.specs.declared.Trailer.{Trailer}
 use Rattle.paper.specs.Graphs.{crosses}
 use Rattle.paper.specs.Files.{visits_by}
 use Rattle.paper.specs.Writing.{per_loop}

@@ -1,9 +1,7 @@
 -- The rules of the content's case are those of the lists that each of them looks at.
-use Prim.Native.Nat.{ℕ, zero, suc, ◌+◌, ◌*◌, ◌≤◌, ◌<◌}
+use Prim.Native.Nat.{ℕ, zero, suc}
 use native.Mathlib.Omega.{arith}
-use mathlib.Core.Path.{◌≡◌, refl, sym, ◌∙◌, ap, subst}
-use mathlib.Core.List.{List}
-use lib.ListN.{length, get_or}
+use mathlib.Core.Path.{◌≡◌, refl, sym, ◌∙◌, ap}
 use Rattle.paper.specs.declared.Previous.{Previous}
 use Rattle.paper.specs.declared.Refusal.{Refusal}
 use Rattle.paper.specs.declared.Trailer.{Trailer}
@@ -12,12 +10,11 @@ use Rattle.paper.specs.declared.Verdict.TheVariants.{Accepted, Refused}
 use Rattle.paper.specs.Cases.{Case, same_set}
 use Rattle.paper.specs.Facts.{none_previous, previous_of, bad_head, bad_order, bad_slot, bad_row, bad_row_at, least_node}
 use Rattle.paper.specs.Graphs.{bad_edge, bad_loop}
-use Rattle.paper.specs.Known.{Shaped}
 use Rattle.paper.specs.Verdicts.{shape_rules, head_rule, order_rule, row_rules}
 use Rattle.paper.specs.Writing.{FileContent, trailer_in, loop_in, rows_named, case_in, content_rules, in_turn, bad_rows_named, written_turn, written_facts}
 use Rattle.paper.proofs.RuleLaws.{Hands, hands_then, accepted_on, refused_on}
 use Rattle.paper.proofs.VerdictLaws.{shape_kept, hands_shape}
-use Rattle.lists.specs.Listed.{content, shape_of, fact_case, Listed, Facts}
+use Rattle.lists.specs.Listed.{shape_of, fact_case, Listed, Facts}
 use Rattle.lists.specs.Turns.{turn, turns}
 use Rattle.lists.proofs.Walk.{hands_turn}
 

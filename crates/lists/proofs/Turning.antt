@@ -18,11 +18,11 @@ use Rattle.paper.specs.declared.Verdict.TheVariants as Verdicts
 use Rattle.paper.specs.Answers.{refuse_at}
 use Rattle.paper.specs.Lists.{least, some, sum_to}
 use Rattle.paper.specs.Machines.{none}
-use Rattle.paper.specs.Cases.{Case, Fact, size, scope_of, range_of, same_set}
+use Rattle.paper.specs.Cases.{size, scope_of, range_of, same_set}
 use Rattle.paper.specs.Facts.{wrong_head, wrong_order, bad_head, bad_order, bad_slot, bad_row, bad_row_at, least_node}
 use Rattle.paper.specs.Rules.{rule_by, rule}
 use Rattle.paper.specs.Verdicts.{head_rule, order_rule, row_rules}
-use Rattle.paper.specs.Writing.{loop_in, rows_named, rows_before, content_rules}
+use Rattle.paper.specs.Writing.{loop_in, rows_named, content_rules}
 use Rattle.paper.proofs.Least.{least_same}
 use Rattle.paper.proofs.FactLaws.{head_sound}
 use Rattle.evidence.specs.declared.Head.{Head}

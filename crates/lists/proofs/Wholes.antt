@@ -1,5 +1,5 @@
 -- Rules 2, 3 and 4 on the lists: what they say where they are passed, and the chain by the answer.
-use Prim.Native.Nat.{ℕ, ◌+◌, ◌*◌, ◌/◌, ◌%◌, ◌≤◌, ◌<◌}
+use Prim.Native.Nat.{ℕ, ◌/◌, ◌%◌, ◌≤◌}
 use native.Mathlib.Omega.{arith}
 use native.Mathlib.Nat.{div-add-mod}
 use mathlib.Core.Path.{◌≡◌, refl, sym, ◌∙◌, ap}
@@ -18,7 +18,7 @@ use Rattle.paper.specs.Machines.{in_range}
 use Rattle.paper.specs.Records.{bad_version}
 use Rattle.paper.specs.Files.{bad_cache, bad_numbers}
 use Rattle.paper.specs.Rules.{rule}
-use Rattle.paper.specs.Writing.{FileContent, per_loop, trailer_in, rows_named, rows_before, bad_lists, list_rules}
+use Rattle.paper.specs.Writing.{FileContent, per_loop, trailer_in, rows_named, bad_lists, list_rules}
 use Rattle.paper.proofs.Says.{neither, says_true}
 use Rattle.paper.proofs.States.{says_range}
 use Rattle.layout.specs.declared.Layout.{Layout}

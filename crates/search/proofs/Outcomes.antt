@@ -1,5 +1,5 @@
 -- A table that is settled gives the outcome: no limit where the most that is asked for is 9, else that limit and the rows for it.
-use Prim.Native.Nat.{ℕ, suc, ◌-◌, ◌*◌, ◌≤◌, ◌<◌}
+use Prim.Native.Nat.{ℕ, suc, ◌*◌, ◌≤◌, ◌<◌}
 use native.Mathlib.Omega.{arith}
 use mathlib.Core.Path.{◌≡◌, sym, ◌∙◌, subst}
 use mathlib.Core.Logic.{◌≢◌, ◌↔◌}
@@ -29,7 +29,6 @@ use Rattle.theory.proofs.Exact.{block_small}
 use Rattle.theory.proofs.OneAccepted.{one_fact}
 use Rattle.theory.proofs.LeastLimit as Limits
 use Rattle.theory.proofs.LeastLimit.{Pass, Fetching, Limit, none_found, limit_low, limit_high, limit_least, limit_passes, lowered_says}
-use Rattle.search.specs.Steps.{lowered}
 use Rattle.search.specs.Passes.{row_index, node_row, most_to, rows_found}
 use Rattle.search.proofs.Justly.{Asked}
 use Rattle.search.proofs.Searching.{rows_of, Settled}

@@ -1,5 +1,5 @@
 -- Rows of what walks gather are sound evidence: 9 where no walk from b arrives, 8 where as many as the limit are gathered, else the set.
-use Prim.Native.Nat.{ℕ, suc, ◌≤◌, ◌<◌}
+use Prim.Native.Nat.{ℕ, ◌≤◌, ◌<◌}
 use native.Mathlib.Omega.{arith}
 use native.Mathlib.Decide.{dec_lt}
 use mathlib.Core.Path.{◌≡◌, refl}
@@ -60,15 +60,14 @@ module _ (e : Case) (t : Fact) where
     pub row : ℕ → Row
     row v = choose v (reached? e t v) (dec_lt _ _)
 
-    sound : (v : ℕ) (d : Dec (Reached e t v)) (f : Dec (Few v)) → SoundRow e t (choose v d f)
-    unfolding choose
-    sound v (yes h) (yes l) = set_sound (found v) low l (gathered_rising e t small v) (λ c m. ((gathered_iff e t small v c).0 m).other)
-    sound v (yes h) (no l) = plain_sound 8 (omega arith) (omega arith)
-    sound v (no n) f = plain_sound 9 (omega arith) (omega arith)
-
     pub row_sound : (v : ℕ) → SoundRow e t (row v)
-    unfolding row
+    unfolding row choose
     row_sound v = sound v _ _
+      where
+        sound : (v : ℕ) (d : Dec (Reached e t v)) (f : Dec (Few v)) → SoundRow e t (choose v d f)
+        sound v (yes h) (yes l) = set_sound (found v) low l (gathered_rising e t small v) (λ c m. ((gathered_iff e t small v c).0 m).other)
+        sound v (yes h) (no l) = plain_sound 8 (omega arith) (omega arith)
+        sound v (no n) f = plain_sound 9 (omega arith) (omega arith)
 
     small_slot : (v : ℕ) (d : Dec (Reached e t v)) (f : Dec (Few v)) (k : ℕ) → (choose v d f).slot k < 65536
     unfolding choose
@@ -84,21 +83,14 @@ module _ (e : Case) (t : Fact) where
     unfolding row
     row_small v k = small_slot v _ _ k
 
-    after : (v : ℕ) (d : Dec (Reached e t v)) (f : Dec (Few v)) → Reached e t v → (choose v d f).number ≢ 9
-    unfolding choose
-    after v (yes h) (yes l) r p = omega arith
-    after v (yes h) (no l) r p = omega arith
-    after v (no n) f r p = n r
-
-    few : (v : ℕ) (d : Dec (Reached e t v)) (f : Dec (Few v)) → Few v → (choose v d f).number ≢ 8
-    unfolding choose
-    few v (yes h) (yes l) r p = omega arith
-    few v (yes h) (no l) r p = l r
-    few v (no n) f r p = omega arith
-
     pub row_few : FewGathered e t → (v : ℕ) → inside (scope_of e t) v ≡ true → e.block v ≡ t.block → (row v).number ≢ 8
-    unfolding row
+    unfolding row choose
     row_few b v i p = few v _ _ (few_gathered e t small b v i p)
+      where
+        few : (v : ℕ) (d : Dec (Reached e t v)) (f : Dec (Few v)) → Few v → (choose v d f).number ≢ 8
+        few v (yes h) (yes l) r p = omega arith
+        few v (yes h) (no l) r p = l r
+        few v (no n) f r p = omega arith
 
     module _ (u v : ℕ) (s : EdgeInside e t u v) where
       abbrev x : ℕ
@@ -107,33 +99,37 @@ module _ (e : Case) (t : Fact) where
       kept : x ≢ t.block → (c : ℕ) → Memᴰ c (found u) → Gathered e t v c
       kept o c m = gathered_on e t s o c ((gathered_iff e t small u c).0 m)
 
-      holds : Few v → (c : ℕ) → Gathered e t v c → Holds (set_row (found v)) c
-      holds l c g =
-          let z = held_set (set_row (found v)) (omega arith) in
-          let i = mem_at ((gathered_iff e t small v c).1 g) in
-          (i.0, omega arith, i.2)
-
-      carried : (d : Dec (Reached e t u)) (f : Dec (Few u)) (d' : Dec (Reached e t v)) (f' : Dec (Few v)) →
-          x ≢ t.block → (choose u d f).number ≢ 9 → (choose v d' f').number ≢ 8 → Carried e t x (choose u d f) (choose v d' f')
-      unfolding choose
-      carried (no n) f d' f' o p q = absurd (p refl)
-      carried (yes h) f (no n) f' o p q = absurd (n (reached_on e t s o h))
-      carried (yes h) f (yes h') (no l') o p q = absurd (q refl)
-      carried (yes h) (no l) (yes h') (yes l') o p q =
-          absurd (omega (arith, gathered_most e t small v (found u) (gathered_rising e t small u) (kept o)))
-      carried (yes h) (yes l) (yes h') (yes l') o p q =
-          let z = held_set (set_row (found u)) (omega arith) in
-          record {
-            set_before = λ w. omega arith;
-            set_after = omega arith;
-            keeps = λ k i. holds l' _ (kept o _ (at_mem (found u) k (omega arith)));
-            adds = λ w. holds l' _ (gathered_new e t s w h);
-          }
-
       pub row_rule : EdgeRule e t x (row u) (row v)
-      unfolding row
+      unfolding row choose
       row_rule =
           record {
             after_block = λ p. after v _ _ (reached_first e t s p);
             other = λ o p q. carried _ _ _ _ o p q;
           }
+        where
+          after : (v : ℕ) (d : Dec (Reached e t v)) (f : Dec (Few v)) → Reached e t v → (choose v d f).number ≢ 9
+          after v (yes h) (yes l) r p = omega arith
+          after v (yes h) (no l) r p = omega arith
+          after v (no n) f r p = n r
+
+          holds : Few v → (c : ℕ) → Gathered e t v c → Holds (set_row (found v)) c
+          holds l c g =
+              let z = held_set (set_row (found v)) (omega arith) in
+              let i = mem_at ((gathered_iff e t small v c).1 g) in
+              (i.0, omega arith, i.2)
+
+          carried : (d : Dec (Reached e t u)) (f : Dec (Few u)) (d' : Dec (Reached e t v)) (f' : Dec (Few v)) →
+              x ≢ t.block → (choose u d f).number ≢ 9 → (choose v d' f').number ≢ 8 → Carried e t x (choose u d f) (choose v d' f')
+          carried (no n) f d' f' o p q = absurd (p refl)
+          carried (yes h) f (no n) f' o p q = absurd (n (reached_on e t s o h))
+          carried (yes h) f (yes h') (no l') o p q = absurd (q refl)
+          carried (yes h) (no l) (yes h') (yes l') o p q =
+              absurd (omega (arith, gathered_most e t small v (found u) (gathered_rising e t small u) (kept o)))
+          carried (yes h) (yes l) (yes h') (yes l') o p q =
+              let z = held_set (set_row (found u)) (omega arith) in
+              record {
+                set_before = λ w. omega arith;
+                set_after = omega arith;
+                keeps = λ k i. holds l' _ (kept o _ (at_mem (found u) k (omega arith)));
+                adds = λ w. holds l' _ (gathered_new e t s w h);
+              }

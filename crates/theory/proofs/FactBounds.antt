@@ -7,7 +7,7 @@ use mathlib.Core.Path.{◌≡◌, ◌∙◌, ap}
 use mathlib.Core.Logic.{◌≢◌}
 use mathlib.Core.List.{List}
 use borrow.Author.Tests.{lt-ltb, le-ltb, lt-leb, le-leb}
-use Rattle.paper.specs.Machines.{none, levels, tree_limit}
+use Rattle.paper.specs.Machines.{none, tree_limit}
 use Rattle.paper.specs.Cases.{Fact, Case}
 use Rattle.paper.specs.Walks.{Walk, KeepsLimits}
 use Rattle.paper.specs.Runs.{Event, walk_of, interruptions}

@@ -69,16 +69,6 @@ module _ (e : Case) (n : ℕ) (fits : n < e.ways) (q : ℕ) (low : q < e.sets) w
   abbrev blanks : (r : List Event) → Contents e L r
   blanks r = record { start = blank; left = λ i. blank; fine = blank_fine; fines = λ i l. blank_fine }
 
-  -- an interruption may leave FIFO's set as it likes: LRU's is empty, so nothing is weighed
-  compared : (r : List Event) (s : Held e F) (left : ℕ → Held e F) (t : Held e L) → Fine e F s → ((i : ℕ) → i < interruptions r → Fine e F (left i)) → Fine e L t →
-      d * paid (in_set e q) (misses e F r s left) ≤ e.ways * paid (in_set e q) (misses e L r t (λ i. blank)) + sum (weight (s q)) (t q)
-  compared [] s left t ls lf lt = omega (arith, mul-zero d)
-  compared (visit v ∷ r) s left t ls lf lt =
-      let z = compared r (move e F v s) left (move e L v t) (move_fine e F (fifo_fair e.ways) v s ls) lf (move_fine e L (lru_fair (suc n)) v t lt) in
-      simp mul-add (omega (arith, at_visit v s t ls lt))
-  compared (interruption ∷ r) s left t ls lf lt =
-      omega (arith, compared r (left 0) (λ i. left (suc i)) blank (lf 0 (omega arith)) (λ i l. lf (suc i) (omega arith)) blank_fine, sum_empty (left 0 q) (suc n))
-
   module _ (sound : Sound e) (p : ℕ) (r : List Event) (walk : Walk e (walk_of r)) (kept : KeepsLimits e (walk_of r)) (few : interruptions r ≤ p) where
     -- M(l) bounds LRU with l ways
     lru_M : paid (in_set e q) (costs e L r (blanks r)) ≤ M e p (suc n) q
@@ -104,3 +94,13 @@ module _ (e : Case) (n : ℕ) (fits : n < e.ways) (q : ℕ) (low : q < e.sets) w
           mul-le-mul_left e.ways lru_M,
           mul_comm (paid (in_set e q) (costs e F r c)) d,
         ))
+      where
+        -- an interruption may leave FIFO's set as it likes: LRU's is empty, so nothing is weighed
+        compared : (r : List Event) (s : Held e F) (left : ℕ → Held e F) (t : Held e L) → Fine e F s → ((i : ℕ) → i < interruptions r → Fine e F (left i)) → Fine e L t →
+            d * paid (in_set e q) (misses e F r s left) ≤ e.ways * paid (in_set e q) (misses e L r t (λ i. blank)) + sum (weight (s q)) (t q)
+        compared [] s left t ls lf lt = omega (arith, mul-zero d)
+        compared (visit v ∷ r) s left t ls lf lt =
+            let z = compared r (move e F v s) left (move e L v t) (move_fine e F (fifo_fair e.ways) v s ls) lf (move_fine e L (lru_fair (suc n)) v t lt) in
+            simp mul-add (omega (arith, at_visit v s t ls lt))
+        compared (interruption ∷ r) s left t ls lf lt =
+            omega (arith, compared r (left 0) (λ i. left (suc i)) blank (lf 0 (omega arith)) (λ i l. lf (suc i) (omega arith)) blank_fine, sum_empty (left 0 q) (suc n))

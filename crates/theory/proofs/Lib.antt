@@ -12,6 +12,7 @@ pub mod Spots
 pub mod Nmru
 pub mod Pair
 pub mod Loads
+pub mod Sides
 pub mod Tree
 pub mod Policies
 pub mod Cut

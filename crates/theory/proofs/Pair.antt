@@ -41,31 +41,6 @@ module _ (b n k : ℕ) (bb : b ≢ none) (n1 : n ≤ 1) (k2 : 2 ≤ k) where
   unfolding sum
   touched s v = record { few = omega arith; real = refl; i = spot k b s; line = stands marks b s v; kept = inl (own k2 b s v) }
 
-  -- R's block is accessed
-  module _ (x : ℕ) (R : List ℕ) (s : SetState) (u : x ≢ b) (x∈ : 1 ≤ cnt x R) (v : LegalWays k (2 ^ k - 1) s) (q : Safe R s) where
-    -- it does not take b's line
-    spared : q.i ≢ spot k x s
-    spared e =
-        elim q.kept [
-          | inl on ↦ omega (arith, taken k2 x s v b q.i bb u q.line e)
-          | inr m ↦
-              let is : get_or s.lines m.0 none ≡ x = same_one _ x R (omega (arith, q.few)) m.2 x∈ in
-              let real : x ≢ none = λ r. omega (arith, ap (λ (y : ℕ). cnt y R) r, q.real) in
-              let at : m.0 ≡ q.i = (there marks x s v real m.0 is).1 ∙ sym e in
-              u (sym is ∙ ap (λ (j : ℕ). get_or s.lines j none) at ∙ q.line)
-        ]
-
-    -- and stands from then on in a line whose bit is 1
-    passed : Safe R (nmru k x s)
-    passed =
-        record {
-          few = q.few;
-          real = q.real;
-          i = q.i;
-          line = others marks x s v q.i spared ∙ q.line;
-          kept = inr (spot k x s, own k2 x s v, rw (stands marks x s v) x∈);
-        }
-
   wider : (R R' : List ℕ) (s : SetState) → ((y : ℕ) → 1 ≤ cnt y R → 1 ≤ cnt y R') → length R' ≤ n → cnt none R' ≡ 0 → Safe R s → Safe R' s
   wider R R' s w f r q =
       record {
@@ -86,3 +61,26 @@ module _ (b n k : ℕ) (bb : b ≢ none) (n1 : n ≤ 1) (k2 : 2 ≤ k) where
         first = λ s v. (0, omega arith, touched s v);
         again = λ m R s v q. (0, omega (arith, there marks b s v bb q.i q.line), touched s v);
       }
+    where
+      -- R's block x is accessed: it does not take b's line
+      spared : (x : ℕ) (R : List ℕ) (s : SetState) → x ≢ b → 1 ≤ cnt x R → LegalWays k (2 ^ k - 1) s → (q : Safe R s) → q.i ≢ spot k x s
+      spared x R s u x∈ v q e =
+          elim q.kept [
+            | inl on ↦ omega (arith, taken k2 x s v b q.i bb u q.line e)
+            | inr m ↦
+                let is : get_or s.lines m.0 none ≡ x = same_one _ x R (omega (arith, q.few)) m.2 x∈ in
+                let real : x ≢ none = λ r. omega (arith, ap (λ (y : ℕ). cnt y R) r, q.real) in
+                let at : m.0 ≡ q.i = (there marks x s v real m.0 is).1 ∙ sym e in
+                u (sym is ∙ ap (λ (j : ℕ). get_or s.lines j none) at ∙ q.line)
+          ]
+
+      -- and b stands from then on in a line whose bit is 1
+      passed : (x : ℕ) (R : List ℕ) (s : SetState) → x ≢ b → 1 ≤ cnt x R → LegalWays k (2 ^ k - 1) s → Safe R s → Safe R (nmru k x s)
+      passed x R s u x∈ v q =
+          record {
+            few = q.few;
+            real = q.real;
+            i = q.i;
+            line = others marks x s v q.i (spared x R s u x∈ v q) ∙ q.line;
+            kept = inr (spot k x s, own k2 x s v, rw (stands marks x s v) x∈);
+          }

@@ -114,21 +114,21 @@ module _ (e : Case) (M : Machine) (t : Fact) where
             pays = omega (arith, r.1, mul-zero a, mul-one d);
           }
 
-    along : (r : List Event) (p : Option ℕ) (known : Bool) (x m : ℕ) (σ : ℕ → M.State) → Taken known r σ → Follows e p (walk_of r) → Mode known p x m (σ 0) →
-        c * missed r σ ≤ a * (tally (begins scope) p (walk_of r) + interruptions r + x) + d * paid (covers e t) (ones (walk_of r)) + m
-    unfolding covers
-    along [] p known x m σ k f μ = omega (arith, mul-zero c)
-    along (visit v ∷ r) p known x m σ k f μ =
-        let n = turn p v x m (σ 0) (σ 1) k.0 known f.0 μ (inside_says scope v) (says_eq (e.block v) t.block) k.1 in
-        let y = along r (some v) (since known v) n.x' n.m' (λ i. σ (suc i)) k.2 f.1 n.mode in
-        simp mul-add (omega (arith, simp mul-add at n.pays, simp mul-add at y))
-    -- what is known is lost, and one more first fetch of b is paid
-    along (interruption ∷ r) p known x m σ k f μ =
-        let y = along r p false (suc x) 0 (λ i. σ (suc i)) k f (λ o. omega arith) in
-        let z : tally (begins scope) p (walk_of r) + suc (interruptions r) + x ≡ tally (begins scope) p (walk_of r) + interruptions r + suc x = omega arith in
-        rw z (omega (arith, y))
-
     -- c times the fact's misses, by the stays, the interruptions and the accesses
     pub fact_pays : (r : List Event) (σ : ℕ → M.State) → Taken false r σ → Follows e none (walk_of r) →
         c * missed r σ ≤ a * (stays scope (walk_of r) + interruptions r) + d * paid (covers e t) (ones (walk_of r))
+    unfolding covers
     fact_pays r σ k f = simp mul-add (omega (arith, simp mul-add at (along r none false 0 0 σ k f (λ o. absurd (true≢false o))), mul-zero a))
+      where
+        along : (r : List Event) (p : Option ℕ) (known : Bool) (x m : ℕ) (σ : ℕ → M.State) → Taken known r σ → Follows e p (walk_of r) → Mode known p x m (σ 0) →
+            c * missed r σ ≤ a * (tally (begins scope) p (walk_of r) + interruptions r + x) + d * paid (covers e t) (ones (walk_of r)) + m
+        along [] p known x m σ k f μ = omega (arith, mul-zero c)
+        along (visit v ∷ r) p known x m σ k f μ =
+            let n = turn p v x m (σ 0) (σ 1) k.0 known f.0 μ (inside_says scope v) (says_eq (e.block v) t.block) k.1 in
+            let y = along r (some v) (since known v) n.x' n.m' (λ i. σ (suc i)) k.2 f.1 n.mode in
+            simp mul-add (omega (arith, simp mul-add at n.pays, simp mul-add at y))
+        -- what is known is lost, and one more first fetch of b is paid
+        along (interruption ∷ r) p known x m σ k f μ =
+            let y = along r p false (suc x) 0 (λ i. σ (suc i)) k f (λ o. omega arith) in
+            let z : tally (begins scope) p (walk_of r) + suc (interruptions r) + x ≡ tally (begins scope) p (walk_of r) + interruptions r + suc x = omega arith in
+            rw z (omega (arith, y))

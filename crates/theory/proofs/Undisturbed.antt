@@ -10,10 +10,10 @@ use lib.Dec.{ltb}
 use Rattle.paper.specs.Lists.{sum_to, lowest_to, table}
 use Rattle.paper.specs.Policies.{parts_of}
 use Rattle.paper.specs.Traces.{Content}
-use Rattle.paper.specs.Cases.{Fact, Case}
+use Rattle.paper.specs.Cases.{Case}
 use Rattle.paper.specs.Graphs.{entries}
 use Rattle.paper.specs.Walks.{Walk, KeepsLimits}
-use Rattle.paper.specs.Runs.{LegalContent, Event, visit, interruption, walk_of, interruptions, Fetch, visited, fetched, run}
+use Rattle.paper.specs.Runs.{Event, visit, interruption, walk_of, interruptions, Fetch, visited, fetched, run}
 use Rattle.paper.specs.Bounds.{bound_of, floor_of, list_length, sets_from, facts_from, covers, counts, sum_of, any_fact, up_to, entered, fact_bound, A, M, floor_at, set_bound, total_bound, number_at, numbers}
 use Rattle.paper.specs.Demands.{BoundsHold, Holds}
 use Rattle.paper.specs.Uninterrupted.{plain_entered, plain_fact, plain_a, plain_floor, plain_set, plain_at, plain_numbers, plain_run, HoldsPlainly}

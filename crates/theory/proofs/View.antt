@@ -13,7 +13,7 @@ use Rattle.paper.specs.Policies.{parts_of}
 use Rattle.paper.specs.Machines.{none, line_of, hits, lru_step, fifo_step, nmru_step, line_or, miss_line, nmru_line, victim, marked, tree_line, tree_step, turned, step, offered}
 use Rattle.paper.specs.Runs.{LegalSet}
 use Rattle.paper.proofs.Says.{Says, holds, fails, says_true}
-use Rattle.paper.proofs.States.{Legal, Offered, legal_below, below_legal, says_offered}
+use Rattle.paper.proofs.States.{Offered, legal_below, below_legal, says_offered}
 use Rattle.theory.proofs.Count.{cnt}
 use Rattle.theory.proofs.Ideal.{miss, lru, fifo, at, place, placed, freed, led, LegalLines, LegalWays}
 use Rattle.theory.proofs.Ways.{Marks, place_low, legal_placed, PLACED}

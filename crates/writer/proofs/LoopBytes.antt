@@ -1,5 +1,5 @@
 -- A loop's bytes in each version: all but W, and W after them where there is one.
-use Prim.Native.Nat.{ℕ, suc, ◌+◌, ◌*◌, ◌≤◌, ◌<◌}
+use Prim.Native.Nat.{ℕ, suc, ◌+◌, ◌*◌, ◌≤◌}
 use native.Mathlib.Omega.{arith}
 use native.Mathlib.Nat.{mul-suc, mul-le-mul}
 use mathlib.Core.Path.{◌≡◌, refl}
@@ -8,7 +8,7 @@ use mathlib.Core.List.{List, ◌++◌}
 use borrow.Author.Tests.{eq-eqb, ne_eqb}
 use lib.ListN.{get_or}
 use Rattle.paper.specs.declared.Trailer.{Trailer}
-use Rattle.paper.specs.Records.{without_w, loop_fields, loop_size}
+use Rattle.paper.specs.Records.{without_w, loop_fields}
 use Rattle.paper.specs.Files.{facts_at, visits_by}
 use Rattle.paper.specs.Writing.{per_loop, number_bytes, loop_in, loop_bytes}
 use Rattle.paper.proofs.LoopSizes.{size_high}

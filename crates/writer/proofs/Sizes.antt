@@ -4,15 +4,14 @@ use native.Mathlib.Omega.{arith}
 use native.Mathlib.Decide.{ℕ_discrete}
 use native.Mathlib.Nat.{mul-zero, mul-suc}
 use mathlib.Core.Path.{◌≡◌, refl, sym, ◌∙◌, ap}
-use mathlib.Core.List.{List, [], ◌∷◌, ◌++◌}
-use lib.ListN.{length, get_or, length-append}
+use mathlib.Core.List.{List, [], ◌∷◌}
+use lib.ListN.{length, length-append}
 use Rattle.paper.specs.declared.Trailer.{Trailer}
 use borrow.Author.Tests.{eq-eqb, ne_eqb}
 use Rattle.paper.specs.Records.{without_w, loop_fields, loop_size}
-use Rattle.paper.specs.Files.{facts_at}
 use Rattle.paper.specs.Lists.{sum_to, each, spaced, part}
 use Rattle.paper.specs.OneFact.{words, head_bytes}
-use Rattle.paper.specs.Writing.{FileContent, loop_in, rows_named, rows_before, fact_in, rows_in, loop_bytes, fact_bytes, trailer_bytes, file_of}
+use Rattle.paper.specs.Writing.{FileContent, loop_in, rows_named, rows_before, fact_in, rows_in, loop_bytes, fact_bytes, trailer_bytes}
 use Rattle.paper.proofs.Sections.{length_words}
 
 length_part : (l : List ℕ) (p n : ℕ) → length (part l p n) ≡ n

@@ -3,8 +3,7 @@ use Prim.Native.Nat.{ℕ, ◌+◌, ◌*◌, ◌≤◌, ◌<◌}
 use native.Mathlib.Omega.{arith}
 use mathlib.Core.Path.{◌≡◌, refl, sym, ◌∙◌, ap, subst}
 use mathlib.Core.List.{List, ◌++◌}
-use lib.Dec.{ltb}
-use lib.ListN.{length, get_or, drop, length-append}
+use lib.ListN.{length, drop, length-append}
 use borrow.Author.Tests.{lt-ltb, le-ltb}
 use Rattle.paper.specs.declared.Refusal.{Refusal}
 use Rattle.paper.specs.declared.Trailer.{Trailer}
@@ -17,7 +16,7 @@ use Rattle.paper.specs.Files.{facts_at}
 use Rattle.paper.specs.Lists.{each}
 use Rattle.paper.specs.OneFact.{words}
 use Rattle.paper.specs.Verdicts.{shape_rules}
-use Rattle.paper.specs.Writing.{FileContent, per_loop, trailer_in, loop_in, rows_named, case_in, loop_bytes, trailer_bytes, fact_bytes, file_of, written_facts, write_verdict, write_answer, out_after}
+use Rattle.paper.specs.Writing.{FileContent, per_loop, trailer_in, loop_in, rows_named, case_in, loop_bytes, trailer_bytes, fact_bytes, file_of, written_facts, write_verdict}
 use Rattle.paper.proofs.RuleLaws.{accepted_on, refused_on}
 use Rattle.paper.proofs.Sections.{length_words}
 use Rattle.layout.specs.declared.Layout.TheVariants as Layouts
@@ -25,7 +24,7 @@ use Rattle.lists.specs.Listed.{content, Listed, Facts}
 use Rattle.lists.specs.Listings.{listing_of}
 use Rattle.lists.proofs.Wholes.{listing_refused, listing_on, listing_trailer, listing_whole}
 use Rattle.lists.proofs.Same.{hands_rules}
-use Rattle.puts.specs.Put.{Fits, Put}
+use Rattle.puts.specs.Put.{Put}
 use Rattle.puts.proofs.Putting.{put_whole}
 use Rattle.writer.specs.Room.{of_loops, of_facts, NarrowLoops, FactsFit}
 use Rattle.writer.specs.Answered.{room_rule, listed_verdict, Written}

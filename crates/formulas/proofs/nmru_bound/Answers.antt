@@ -2,19 +2,11 @@
 use Prim.Native.Nat.{◌≤◌}
 use native.Mathlib.Omega.{arith}
 use native.Mathlib.Nat.{mul-le-mul}
-use mathlib.Core.Path.{refl}
-use borrow.Author.Tests.{lt-ltb, le-ltb}
 use Rattle.formulas.specs.Largest.{largest_visits}
 use Rattle.formulas.proofs.nmru_bound.Goals as goal
-
-pub returns-then-l-lt3 : goal.returns-then-l-lt3
-returns-then-l-lt3 c = rw (lt-ltb c.args.l 3 (omega (arith, c.if-l-lt3.true))) refl
 
 pub overflow_mul-l : goal.overflow_mul-l
 overflow_mul-l c =
     let h : c.args.l ≤ 8 = omega arith in
     let k : c.args.e ≤ largest_visits = omega arith in
     omega (arith, mul-le-mul h k)
-
-pub returns : goal.returns
-returns c = rw (le-ltb c.args.l 3 (omega (arith, c.if-l-lt3.false)), c.lesser.ensures) refl

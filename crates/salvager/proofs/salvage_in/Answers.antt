@@ -1,6 +1,4 @@
 -- `salvager::salvage_in`: the graph's refusal, or what comes of the facts; g is where the graph was judged.
-use borrow.Author.Rules.{rules}
-use Rattle.paper.proofs.RuleLaws.{unrefused}
 use Rattle.salvager.proofs.SalvageEnds.{graph_shaped, graph_out, graph_on}
 use Rattle.salvager.proofs.salvage_in.Goals as goal
 
@@ -10,8 +8,8 @@ returns-in-Refused c =
 
 pub sift_and_fill-requires : goal.sift_and_fill-requires
 sift_and_fill-requires c =
-    record { laid = c.requires.laid; shaped = graph_shaped _ _ _ c.graph_rules-graph.ensures.value (unrefused _ c.in_default.not-Refused); trailer_value = c.requires.trailer_value }
+    record { laid = c.requires.laid; shaped = graph_shaped _ _ _ c.graph_rules-graph.ensures.value c.in_default.is; trailer_value = c.requires.trailer_value }
 
 pub returns : goal.returns
 returns c =
-    graph_on _ _ _ c.graph_rules-graph.ensures.value _ _ _ _ _ _ (unrefused _ c.in_default.not-Refused) c.sift_and_fill.ensures
+    graph_on _ _ _ c.graph_rules-graph.ensures.value _ _ _ _ _ _ c.in_default.is c.sift_and_fill.ensures

@@ -1,8 +1,7 @@
 -- `lists::numbers::loop_number`: the lists are whole, so loop j's numbers are in the list (`front_in`).
-use Prim.Native.Nat.{ℕ, ◌+◌, ◌*◌, ◌≤◌}
+use Prim.Native.Nat.{ℕ, ◌*◌, ◌≤◌}
 use native.Mathlib.Omega.{arith}
 use native.Mathlib.Nat.{mul-le-mul}
-use borrow.Author.Rules.{rules}
 use Rattle.lists.proofs.LoopNumbers.{front_in, number_is}
 use Rattle.lists.proofs.numbers.loop_number.Goals as goal
 

@@ -1,9 +1,7 @@
 -- `lists::numbers::visits_of`: version 1 has no W; else a loop has four numbers (`per_with`), and W is the last.
 use native.Mathlib.Omega.{arith}
 use mathlib.Core.Path.{sym, ◌∙◌, ap}
-use Prim.Native.Nat.{ℕ, ◌+◌, ◌*◌}
-use borrow.Author.Rules.{rules}
-use lib.ListN.{get_or}
+use Prim.Native.Nat.{ℕ, ◌*◌}
 use Rattle.paper.proofs.LoopSizes.{per_with, visits_without, visits_with}
 use Rattle.lists.proofs.LoopNumbers.{numbers_in, number_is}
 use Rattle.lists.proofs.numbers.visits_of.Goals as goal
@@ -14,7 +12,7 @@ returns-then-trailer-eq-WITHOUT_W c = sym (visits_without _ _ c.if-trailer-eq-WI
 pub bounds-loops-j : goal.bounds-loops-j
 bounds-loops-j c =
     let four = per_with c.args.trailer.version c.if-trailer-eq-WITHOUT_W.false in
-    omega (arith, four, ap (λ (p : ℕ). p * s.args.j) four, numbers_in s.args.trailer.version s.args.loops.now s.args.j _ s.requires.loops_len s.requires.j_lt_loops)
+    omega (arith, four, ap (λ (p : ℕ). p * c.args.j) four, numbers_in c.args.trailer.version c.args.loops.now c.args.j _ c.requires.loops_len c.requires.j_lt_loops)
 
 pub returns : goal.returns
 returns c =

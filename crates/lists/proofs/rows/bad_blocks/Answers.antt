@@ -1,15 +1,13 @@
 -- `lists::rows::bad_blocks`: the first slot that fails stops the loop; before it none did, and `low` is the least that the next may be.
-use Prim.Native.Nat.{◌-◌}
 use mathlib.Core.Path.{◌≡◌}
 use native.Mathlib.Omega.{arith}
-use borrow.Author.Rules.{rules}
 use mathlib.Core.Bool.{◌||◌}
 use lib.Dec.{eqb, ltb}
 use borrow.Author.Tests.{eqb-false}
 use Rattle.paper.specs.Facts.{bad_slot}
-use Rattle.paper.proofs.Least.{Passed, passed_start, passed_more, some_found, some_end}
+use Rattle.paper.proofs.Least.{passed_start, passed_more, some_found, some_end}
 use Rattle.paper.proofs.Says.{neither}
-use Rattle.evidence.proofs.Slots.{lowest, lowest_start, lowest_more}
+use Rattle.evidence.proofs.Slots.{lowest_start, lowest_more}
 use Rattle.lists.specs.Listed.{row_at, fact_of, row_case}
 use Rattle.lists.proofs.Slots.{set_held, block_test}
 use Rattle.lists.proofs.rows.bad_blocks.Goals as goal
@@ -46,11 +44,10 @@ overflow_add-low c =
     omega (arith, eqb-false x 65535 (neither (eqb x 65535) _ c.if-x-h.false).0)
 
 pub loop-i-preserved : goal.loop-i-preserved
-loop-i-preserved c =
-    (
-      passed_more _ _ _ _ c.loop-i.invariant.0 c.loop-i-test.true (tested_2 c) c.if-x-h.false,
-      lowest_more _ _ _ c.slot_at-x.ensures,
-    )
+loop-i-preserved c = (
+  passed_more _ _ _ _ c.loop-i.invariant.0 c.loop-i-test.true (tested_2 c) c.if-x-h.false,
+  lowest_more _ _ _ c.slot_at-x.ensures,
+)
 
 pub returns : goal.returns
 returns c = some_end _ _ _ c.loop-i.invariant.0 c.loop-i-test.false

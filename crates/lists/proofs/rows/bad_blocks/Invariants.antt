@@ -1,17 +1,10 @@
 -- `lists::rows::bad_blocks`: the first slot that fails stops the loop; before it none did, and `low` is the least that the next may be.
 use Prim.Native.Nat.{◌-◌}
 use mathlib.Core.Path.{◌≡◌}
-use native.Mathlib.Omega.{arith}
-use borrow.Author.Rules.{rules}
-use mathlib.Core.Bool.{◌||◌}
-use lib.Dec.{eqb, ltb}
-use borrow.Author.Tests.{eqb-false}
 use Rattle.paper.specs.Facts.{bad_slot}
-use Rattle.paper.proofs.Least.{Passed, passed_start, passed_more, some_found, some_end}
-use Rattle.paper.proofs.Says.{neither}
-use Rattle.evidence.proofs.Slots.{lowest, lowest_start, lowest_more}
+use Rattle.paper.proofs.Least.{Passed}
+use Rattle.evidence.proofs.Slots.{lowest}
 use Rattle.lists.specs.Listed.{row_at, fact_of, row_case}
-use Rattle.lists.proofs.Slots.{set_held, block_test}
 use Rattle.lists.proofs.rows.bad_blocks.Given as goal
 
 abbrev pub invariant-loop-i : goal.invariant-loop-i

@@ -1,12 +1,7 @@
 -- `lists::rows::bad_rest`: the first slot that is not free stops the loop.
 use Prim.Native.Nat.{◌-◌, ◌≤◌}
-use borrow.Author.Rules.{rules}
-use borrow.Author.Tests.{eq-eqb, ne_eqb}
-use mathlib.Core.Path.{refl, ap}
-use mathlib.Core.Bool.{not}
-use Rattle.paper.proofs.Least.{Passed, passed_more, some_found, some_end}
+use Rattle.paper.proofs.Least.{Passed}
 use Rattle.evidence.specs.RowParts.{unfree}
-use Rattle.evidence.proofs.Slots.{unfree_before, unfree_at}
 use Rattle.lists.specs.Listed.{row_at}
 use Rattle.lists.proofs.rows.bad_rest.Given as goal
 

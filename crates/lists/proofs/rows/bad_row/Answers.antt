@@ -1,7 +1,6 @@
 -- `lists::rows::bad_row`: rule 16 by the row's number.
 use mathlib.Core.Path.{refl}
 use native.Mathlib.Omega.{arith}
-use borrow.Author.Rules.{rules}
 use Rattle.evidence.proofs.OneRow.{row_high, row_other, row_long, row_block, row_set}
 use Rattle.lists.proofs.rows.bad_row.Goals as goal
 

@@ -1,9 +1,6 @@
 -- `lists::rows::bad_rows`: the first bad row stops the loop; before it none was bad.
-use Prim.Native.Nat.{◌-◌}
-use borrow.Author.Rules.{rules}
 use Rattle.paper.specs.Facts.{bad_row_at}
-use Rattle.paper.proofs.Least.{Passed, passed_start, passed_more, least_found, least_end}
-use Rattle.lists.specs.Listed.{fact_of, row_case}
+use Rattle.paper.proofs.Least.{passed_start, passed_more, least_found, least_end}
 use Rattle.lists.proofs.rows.bad_rows.Goals as goal
 
 pub returns-then-bad_row : goal.returns-then-bad_row
@@ -20,4 +17,4 @@ pub loop-j-init : goal.loop-j-init
 loop-j-init c = passed_start _ _
 
 pub returns : goal.returns
-returns-then-bad_row c = least_end _ _ _ c.loop-j.invariant c.loop-j-test.false
+returns c = least_end _ _ _ c.loop-j.invariant c.loop-j-test.false

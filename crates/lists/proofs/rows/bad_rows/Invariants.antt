@@ -1,8 +1,7 @@
 -- `lists::rows::bad_rows`: the first bad row stops the loop; before it none was bad.
 use Prim.Native.Nat.{◌-◌}
-use borrow.Author.Rules.{rules}
 use Rattle.paper.specs.Facts.{bad_row_at}
-use Rattle.paper.proofs.Least.{Passed, passed_start, passed_more, least_found, least_end}
+use Rattle.paper.proofs.Least.{Passed}
 use Rattle.lists.specs.Listed.{fact_of, row_case}
 use Rattle.lists.proofs.rows.bad_rows.Given as goal
 

@@ -1,6 +1,5 @@
 -- `lists::rows::elsewhere`: what is judged by says where x lives.
 use mathlib.Core.Path.{refl}
-use borrow.Author.Rules.{rules}
 use Rattle.lists.proofs.Slots.{home_of}
 use Rattle.lists.proofs.rows.elsewhere.Goals as goal
 

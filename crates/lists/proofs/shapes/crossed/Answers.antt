@@ -1,11 +1,9 @@
 -- `lists::shapes::crossed`: the first loop that is crossed stops the loop; before it none was.
-use Prim.Native.Nat.{◌-◌}
 use mathlib.Core.Path.{◌≡◌}
 use mathlib.Core.Bool.{◌&&◌}
 use lib.Dec.{leb, ltb}
-use borrow.Author.Rules.{rules}
 use Rattle.paper.specs.Graphs.{crosses}
-use Rattle.paper.proofs.Least.{Passed, passed_start, passed_more, least_found, least_end}
+use Rattle.paper.proofs.Least.{passed_start, passed_more, least_found, least_end}
 use Rattle.lists.specs.Listed.{loop_at}
 use Rattle.lists.proofs.LoopNumbers.{crossed_at}
 use Rattle.lists.proofs.shapes.crossed.Goals as goal
@@ -42,4 +40,4 @@ pub loop-j-init : goal.loop-j-init
 loop-j-init c = passed_start _ _
 
 pub returns : goal.returns
-returns-then-first-end c = least_end _ _ _ c.loop-j.invariant c.loop-j-test.false
+returns c = least_end _ _ _ c.loop-j.invariant c.loop-j-test.false

@@ -1,10 +1,7 @@
 -- `lists::shapes::first_bad_edge`: the first bad edge stops the loop; a and b are the ends of the one before.
-use Prim.Native.Nat.{◌-◌}
 use mathlib.Core.Path.{refl, ◌∙◌}
-use borrow.Author.Rules.{rules}
-use Rattle.paper.specs.Graphs.{bad_edge}
-use Rattle.paper.proofs.Least.{Passed, passed_start, passed_more, least_found, least_end}
-use Rattle.paper.proofs.Before.{IsBefore, before_start, before_more, edge_after}
+use Rattle.paper.proofs.Least.{passed_start, passed_more, least_found, least_end}
+use Rattle.paper.proofs.Before.{before_start, before_more, edge_after}
 use Rattle.lists.specs.Listed.{edge_case}
 use Rattle.lists.proofs.shapes.first_bad_edge.Goals as goal
 
@@ -27,4 +24,4 @@ pub loop-i-init : goal.loop-i-init
 loop-i-init c = (passed_start _ _, before_start _ _, before_start _ _)
 
 pub returns : goal.returns
-returns-then-wrong_edge c = least_end _ _ _ c.loop-i.invariant.0 c.loop-i-test.false
+returns c = least_end _ _ _ c.loop-i.invariant.0 c.loop-i-test.false

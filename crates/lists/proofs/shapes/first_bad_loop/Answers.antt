@@ -1,14 +1,12 @@
 -- `lists::shapes::first_bad_loop`: the first bad loop stops the loop; h is the header of the one before. n is where all four numbers of a loop are read.
-use Prim.Native.Nat.{◌-◌, ◌+◌, ◌*◌}
+use Prim.Native.Nat.{◌+◌, ◌*◌}
 use mathlib.Core.Path.{◌≡◌, ◌∙◌}
 use native.Mathlib.Omega.{arith}
-use borrow.Author.Rules.{rules}
 use Rattle.paper.specs.declared.Loop.{Loop}
-use Rattle.paper.specs.Graphs.{bad_loop}
 use Rattle.paper.specs.Writing.{per_loop, loop_in}
-use Rattle.paper.proofs.Least.{Passed, passed_start, passed_more, least_found, least_end}
-use Rattle.paper.proofs.Before.{IsBefore, before_start, before_more, loop_after}
-use Rattle.lists.specs.Listed.{loop_case, loop_at}
+use Rattle.paper.proofs.Least.{passed_start, passed_more, least_found, least_end}
+use Rattle.paper.proofs.Before.{before_start, before_more, loop_after}
+use Rattle.lists.specs.Listed.{loop_case}
 use Rattle.lists.proofs.LoopNumbers.{loop_of}
 use Rattle.lists.proofs.shapes.first_bad_loop.Goals as goal
 
@@ -17,7 +15,7 @@ is_loop : (n : goal.Then-wrong_loop) →
     let a = n.args in
     ◌≡◌ {A = Loop}
     (record { first = n.loop_number-first.result; last = n.loop_number-last.result; bound = n.loop_number-bound.result; visits = n.visits_of-visits.result })
-    ((loop_case a.trailer a.loops.now).loop-i n.loop-i.i)
+    ((loop_case a.trailer a.loops.now).loop n.loop-i.i)
 unfolding loop_in
 is_loop n =
     let a = n.args in
@@ -29,7 +27,7 @@ is_loop_2 : (n : goal.Else-wrong_loop) →
     let a = n.args in
     ◌≡◌ {A = Loop}
     (record { first = n.loop_number-first.result; last = n.loop_number-last.result; bound = n.loop_number-bound.result; visits = n.visits_of-visits.result })
-    ((loop_case a.trailer a.loops.now).loop-i n.loop-i.i)
+    ((loop_case a.trailer a.loops.now).loop n.loop-i.i)
 unfolding loop_in
 is_loop_2 n =
     let a = n.args in
@@ -57,4 +55,4 @@ pub loop-i-init : goal.loop-i-init
 loop-i-init c = (passed_start _ _, before_start _ _)
 
 pub returns : goal.returns
-returns-then-wrong_loop c = least_end _ _ _ c.loop-i.invariant.0 c.loop-i-test.false
+returns c = least_end _ _ _ c.loop-i.invariant.0 c.loop-i-test.false

@@ -1,15 +1,9 @@
 -- `lists::shapes::first_bad_loop`: the first bad loop stops the loop; h is the header of the one before. n is where all four numbers of a loop are read.
-use Prim.Native.Nat.{◌-◌, ◌+◌, ◌*◌}
-use mathlib.Core.Path.{◌≡◌, ◌∙◌}
-use native.Mathlib.Omega.{arith}
-use borrow.Author.Rules.{rules}
-use Rattle.paper.specs.declared.Loop.{Loop}
+use Prim.Native.Nat.{◌-◌}
 use Rattle.paper.specs.Graphs.{bad_loop}
-use Rattle.paper.specs.Writing.{per_loop, loop_in}
-use Rattle.paper.proofs.Least.{Passed, passed_start, passed_more, least_found, least_end}
-use Rattle.paper.proofs.Before.{IsBefore, before_start, before_more, loop_after}
-use Rattle.lists.specs.Listed.{loop_case, loop_at}
-use Rattle.lists.proofs.LoopNumbers.{loop_of}
+use Rattle.paper.proofs.Least.{Passed}
+use Rattle.paper.proofs.Before.{IsBefore}
+use Rattle.lists.specs.Listed.{loop_case}
 use Rattle.lists.proofs.shapes.first_bad_loop.Given as goal
 
 abbrev pub invariant-loop-i : goal.invariant-loop-i

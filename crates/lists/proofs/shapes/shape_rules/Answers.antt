@@ -1,5 +1,4 @@
 -- `lists::shapes::shape_rules`: 6, then 7.
-use borrow.Author.Rules.{rules}
 use Rattle.paper.proofs.RuleLaws.{passes_at, stops_at}
 use Rattle.lists.proofs.shapes.shape_rules.Goals as goal
 

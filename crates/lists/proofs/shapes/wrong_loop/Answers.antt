@@ -1,5 +1,4 @@
 -- `lists::shapes::wrong_loop`: rule 7, test by test.
-use borrow.Author.Rules.{rules}
 use Rattle.paper.specs.Lists.{some}
 use Rattle.paper.specs.Graphs.{wrong_loop}
 use Rattle.lists.proofs.shapes.wrong_loop.Goals as goal

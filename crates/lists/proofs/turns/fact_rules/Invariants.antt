@@ -1,7 +1,6 @@
 -- `lists::turns::fact_rules` walks through the facts: q is where a fact has had its turn, l where the loop began it.
 use Prim.Native.Nat.{◌-◌}
-use borrow.Author.Rules.{rules}
-use Rattle.lists.proofs.Walk.{Walked, walk_start, walk_on, walk_stops, walk_done}
+use Rattle.lists.proofs.Walk.{Walked}
 use Rattle.lists.proofs.turns.fact_rules.Given as goal
 
 abbrev pub invariant-loop-i : goal.invariant-loop-i

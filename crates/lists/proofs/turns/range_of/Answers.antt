@@ -1,8 +1,7 @@
 -- `lists::turns::range_of`: a loop that passed rule 7 has nodes for ends; e is where the scope is a loop.
-use Prim.Native.Nat.{ℕ, ◌+◌, ◌*◌, ◌<◌}
+use Prim.Native.Nat.{◌+◌, ◌*◌, ◌<◌}
 use mathlib.Core.Path.{◌≡◌, refl}
 use native.Mathlib.Omega.{arith}
-use borrow.Author.Rules.{rules}
 use borrow.Author.Tests.{eq-eqb, ne_eqb}
 use Rattle.paper.specs.Cases.{range_of}
 use Rattle.paper.specs.Writing.{per_loop}

@@ -9,31 +9,22 @@ use Rattle.lists.specs.Listed.{plain}
 use Rattle.lists.proofs.Wholes.{or_right, or_left, few}
 use Rattle.lists.proofs.whole.bad_lists.Goals as goal
 
-abbrev start : goal.Then-nodes-edges → goal.Start
-start n = n.before.before.before.before.before.before
-
-abbrev start_2 : goal.After-rows_named → goal.Start
-start_2 n = n.before.before.before.before.before.before
-
-abbrev start_3 : goal.Else-nodes-edges → goal.Start
-start_3 n = n.before.before.before.before.before.before
-
 pub returns-then-nodes-edges : goal.returns-then-nodes-edges
 unfolding bad_numbers trailer_in
 returns-then-nodes-edges c =
-    let a = (start c).args in
+    let a = c.args in
     or_right (bad_lists (plain a.version a.nodes.now a.edges.now a.loops.now a.heads.now a.rows.now)) _ (rw c.per_loop-per.ensures.value at c.if-nodes-edges.true)
 
 -- once the numbers are in range the facts are few
-facts-few : (c : goal.Else-nodes-edges) → length (start_3 c).args.heads.now / 4 ≤ 256
+facts-few : (c : goal.Else-nodes-edges) → length c.args.heads.now / 4 ≤ 256
 facts-few c =
-    let a = (start_3 c).args in
+    let a = c.args in
     few (length a.nodes.now) (length a.edges.now / 2) (length a.loops.now / c.per_loop-per.result) (length a.heads.now / 4) c.if-nodes-edges.false
 
 -- once the numbers are in range the facts are few
-facts-few_2 : (c : goal.After-rows_named) → length (start_2 c).args.heads.now / 4 ≤ 256
+facts-few_2 : (c : goal.After-rows_named) → length c.args.heads.now / 4 ≤ 256
 facts-few_2 c =
-    let a = (start_2 c).args in
+    let a = c.args in
     few (length a.nodes.now) (length a.edges.now / 2) (length a.loops.now / c.per_loop-per.result) (length a.heads.now / 4) c.if-nodes-edges.false
 
 pub rows_named-requires : goal.rows_named-requires
@@ -46,6 +37,6 @@ overflow_mul-result c = omega (arith, c.rows_named.ensures.upper_bound, facts-fe
 pub returns : goal.returns
 unfolding bad_numbers trailer_in bad_lists rows_named
 returns c =
-    let a = (start_2 c).args in
+    let a = c.args in
     rw (c.rows_named.ensures.value, c.per_loop-per.ensures.value)
     (or_left (bad_lists (plain a.version a.nodes.now a.edges.now a.loops.now a.heads.now a.rows.now)) _ (rw c.per_loop-per.ensures.value at c.if-nodes-edges.false))

@@ -1,8 +1,5 @@
 -- `lists::whole::rows_named_lem` adds what the heads name.
-use Prim.Native.Nat.{◌+◌, ◌-◌, ◌*◌}
-use borrow.Author.Rules.{rules}
-use lib.ListN.{get_or}
-use Rattle.paper.proofs.Sums.{Added, added_start, added_more, added_end}
+use Rattle.paper.proofs.Sums.{added_start, added_more, added_end}
 use Rattle.lists.proofs.whole.rows_named.Goals as goal
 
 pub loop-i-preserved : goal.loop-i-preserved

@@ -1,8 +1,7 @@
 -- `lists::whole::rows_named_lem` adds what the heads name.
 use Prim.Native.Nat.{◌+◌, ◌-◌, ◌*◌}
-use borrow.Author.Rules.{rules}
 use lib.ListN.{get_or}
-use Rattle.paper.proofs.Sums.{Added, added_start, added_more, added_end}
+use Rattle.paper.proofs.Sums.{Added}
 use Rattle.lists.proofs.whole.rows_named.Given as goal
 
 abbrev pub invariant-loop-i : goal.invariant-loop-i

@@ -1,8 +1,6 @@
 -- `salvager::filling::copy` puts one byte after another: after i of them the others are left.
-use Prim.Native.Nat.{◌-◌}
 use mathlib.Core.Path.{refl}
-use borrow.Author.Rules.{rules}
-use Rattle.salvager.proofs.Copied.{Copied, copied_start, copied_more, copied_end}
+use Rattle.salvager.proofs.Copied.{copied_start, copied_more, copied_end}
 use Rattle.salvager.proofs.filling.copy.Goals as goal
 
 pub loop-i-init : goal.loop-i-init

@@ -1,7 +1,5 @@
 -- `salvager::filling::copy_numbers` puts one number after another: after i of them the others are left.
-use Prim.Native.Nat.{◌-◌}
-use borrow.Author.Rules.{rules}
-use Rattle.salvager.proofs.Copied.{Copied, copied_start, numbers_more, numbers_end}
+use Rattle.salvager.proofs.Copied.{copied_start, numbers_more, numbers_end}
 use Rattle.salvager.proofs.filling.copy_numbers.Goals as goal
 
 pub loop-i-init : goal.loop-i-init

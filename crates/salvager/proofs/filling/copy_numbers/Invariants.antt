@@ -1,7 +1,6 @@
 -- `salvager::filling::copy_numbers` puts one number after another: after i of them the others are left.
 use Prim.Native.Nat.{◌-◌}
-use borrow.Author.Rules.{rules}
-use Rattle.salvager.proofs.Copied.{Copied, copied_start, numbers_more, numbers_end}
+use Rattle.salvager.proofs.Copied.{Copied}
 use Rattle.salvager.proofs.filling.copy_numbers.Given as goal
 
 abbrev pub invariant-loop-i : goal.invariant-loop-i

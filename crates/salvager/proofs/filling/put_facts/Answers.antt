@@ -1,9 +1,6 @@
 -- `salvager::filling::put_facts`: a fact after another, by the table; l is where the loop began one.
-use Prim.Native.Nat.{◌-◌}
 use native.Mathlib.Omega.{arith}
-use borrow.Author.Rules.{rules}
-use Rattle.paper.specs.Files.{trailer_of}
-use Rattle.salvager.proofs.KeptPut.{Placed, placed_start, placed_fits, placed_more, placed_end, placed_to, span_rises, span_within}
+use Rattle.salvager.proofs.KeptPut.{placed_start, placed_fits, placed_more, placed_end, placed_to, span_rises, span_within}
 use Rattle.salvager.proofs.filling.put_facts.Goals as goal
 
 pub bounds-spans-j : goal.bounds-spans-j

@@ -1,5 +1,4 @@
 -- `salvager::filling::put_file`: the graph, the facts and the trailer. Each place is named by what was put there.
-use borrow.Author.Rules.{rules}
 use Rattle.puts.proofs.Putting.{put_then}
 use Rattle.salvager.proofs.SalvageEnds.{file_put}
 use Rattle.salvager.proofs.filling.put_file.Goals as goal

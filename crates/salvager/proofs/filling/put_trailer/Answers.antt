@@ -1,5 +1,4 @@
 -- `salvager::filling::put_trailer`: the trailer up to the number of facts, the number, and the rest. Each place is named by what was put there.
-use borrow.Author.Rules.{rules}
 use Rattle.puts.proofs.Putting.{put_then}
 use Rattle.salvager.proofs.KeptPut.{trailer_put}
 use Rattle.salvager.proofs.filling.put_trailer.Goals as goal

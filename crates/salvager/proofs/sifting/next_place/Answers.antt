@@ -3,7 +3,6 @@ use native.Mathlib.Omega.{arith}
 use Prim.Native.Nat.{◌≤◌, ◌<◌}
 use mathlib.Core.Path.{refl, sym, ◌∙◌}
 use mathlib.Core.Bool.{true, false}
-use borrow.Author.Rules.{rules}
 use borrow.Author.Tests.{ltb-false}
 use Rattle.salvager.proofs.Judged.{scope_named, next_is, scope_is, range_within, rows_end, cut_is}
 use Rattle.salvager.proofs.sifting.next_place.Goals as goal

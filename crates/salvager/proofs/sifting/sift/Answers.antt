@@ -1,9 +1,7 @@
 -- `salvager::sifting::sift` judges each fact into the table: l is where the loop began a fact, t where the fact has had its turn.
-use Prim.Native.Nat.{◌-◌}
 use native.Mathlib.Omega.{arith}
 use borrow.Author.Rules.{rules}
-use mathlib.Core.Path.{refl}
-use Rattle.salvager.proofs.Sifts.{Sifting, sift_start, sift_keep, sift_drop, sift_end, ends_later, grows}
+use Rattle.salvager.proofs.Sifts.{sift_start, sift_keep, sift_drop, sift_end, ends_later, grows}
 use Rattle.salvager.proofs.sifting.sift.Goals as goal
 
 pub loop-i-init : goal.loop-i-init
@@ -20,15 +18,15 @@ put_span-requires c =
 
 pub overflow_sub-size : goal.overflow_sub-size
 overflow_sub-size c =
-    ends_later _ _ _ _ c.loop-i.invariant c.loop-i-test.true _ c.in-Kept.ensures _ refl
+    ends_later _ _ _ _ c.loop-i.invariant c.loop-i-test.true _ c.turn_of-r.ensures _ c.in-Kept.is
 
 pub overflow_add-size : goal.overflow_add-size
 overflow_add-size c =
-    search (rules, grows _ _ _ _ c.loop-i.invariant c.loop-i-test.true _ c.in-Kept.ensures _ refl)
+    search (rules, grows _ _ _ _ c.loop-i.invariant c.loop-i-test.true _ c.turn_of-r.ensures _ c.in-Kept.is)
 
 pub loop-i-preserved-in-Kept : goal.loop-i-preserved-in-Kept
 loop-i-preserved-in-Kept c =
-    sift_keep _ _ _ _ c.loop-i.invariant c.loop-i-test.true _ c.in-Kept.ensures _ refl _ c.put_span.ensures
+    sift_keep _ _ _ _ c.loop-i.invariant c.loop-i-test.true _ c.turn_of-r.ensures _ c.in-Kept.is _ c.put_span.ensures
 
 pub put_why-requires : goal.put_why-requires
 put_why-requires c =
@@ -40,7 +38,7 @@ next_place-p-requires c =
 
 pub loop-i-preserved : goal.loop-i-preserved
 loop-i-preserved c =
-    sift_drop _ _ _ _ c.loop-i.invariant c.loop-i-test.true _ c.in-Refused.ensures _ refl _ c.put_why.ensures _ c.next_place-p.ensures.value c.next_place-p.ensures.lower_bound.0 c.next_place-p.ensures.lower_bound.1
+    sift_drop _ _ _ _ c.loop-i.invariant c.loop-i-test.true _ c.turn_of-r.ensures _ c.in-Refused.is _ c.put_why.ensures _ c.next_place-p.ensures.value c.next_place-p.ensures.lower_bound.0 c.next_place-p.ensures.lower_bound.1
 
 pub returns : goal.returns
 returns c =

@@ -1,8 +1,6 @@
 -- `salvager::sifting::sift` judges each fact into the table: l is where the loop began a fact, t where the fact has had its turn.
 use Prim.Native.Nat.{◌-◌}
-use native.Mathlib.Omega.{arith}
-use borrow.Author.Rules.{rules}
-use Rattle.salvager.proofs.Sifts.{Sifting, sift_start, sift_keep, sift_drop, sift_end, ends_later, grows}
+use Rattle.salvager.proofs.Sifts.{Sifting}
 use Rattle.salvager.proofs.sifting.sift.Given as goal
 
 abbrev pub invariant-loop-i : goal.invariant-loop-i
