@@ -1,7 +1,7 @@
 -- Demands 1 and 2 give demand 3: whoever has the verdict and the lent list has the whole promise.
 use Prim.Native.Nat.{ℕ}
 use mathlib.Core.Path.{◌≡◌, sym, ◌∙◌, ap, subst}
-use mathlib.Core.List.{List, ◌++◌}
+use mathlib.Core.List.{List}
 use lib.ListN.{length, drop}
 use Rattle.paper.specs.declared.Verdict.{Verdict}
 use Rattle.paper.specs.declared.Verdict.TheVariants.{Accepted}

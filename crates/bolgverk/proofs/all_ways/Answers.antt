@@ -2,19 +2,14 @@
 use Prim.Native.Nat.{ℕ}
 use mathlib.Core.Path.{◌≡◌, refl}
 use mathlib.Core.List.{List}
-use borrow.Author.Rules.{rules}
 use Rattle.paper.specs.declared.WaysAnswer.{WaysAnswer}
 use Rattle.paper.specs.AllWays.{all_ways}
 use Rattle.inclusion.proofs.WaysRuns.{ways_runs, ways_fall}
 use Rattle.bolgverk.specs.Promises.{WaysPromise}
-use Rattle.bolgverk.proofs.all_ways.Statement.{statement}
-use Rattle.bolgverk.proofs.all_ways.Tie as tie
+use Rattle.bolgverk.proofs.all_ways.Goals as goal
 
 ways-kept : (sets : ℕ) (blocks : List ℕ) (r : WaysAnswer) → r ≡ all_ways sets blocks → WaysPromise sets blocks r
 ways-kept sets blocks r e = rw e (record { told = refl; counts = refl; runs = ways_runs sets blocks; falls = ways_fall sets blocks })
 
-returns : tie.Need-returns
+pub returns : goal.returns
 returns c = ways-kept _ _ _ c.all_ways.ensures
-
-pub all-ways-spec : {M : Type 1} → statement M
-all-ways-spec = tie.close (tie.spec (λ c κs. search rules) returns)
