@@ -10,7 +10,7 @@ use Rattle.paper.specs.Listings.{bytes}
 use Rattle.paper.specs.NextBits.{next_bits}
 use Rattle.paper.specs.Patterns.{binary, next_from, pattern_line, patterns_from, patterns, missed, tree_table, tree_patterns}
 use Rattle.paper.proofs.TableLaws.{get_d_table}
-use Rattle.puts.specs.Put.{Fits, Put}
+use Rattle.puts.specs.Put.{Put}
 use Rattle.puts.proofs.Putting.{Left, left_start, put_whole}
 
 pub binary_length : (bits n : ℕ) → length (binary bits n) ≡ n

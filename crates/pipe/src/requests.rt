@@ -6,7 +6,7 @@ ghost use Rattle.frames.specs.Room as Room;
 
 use answers::{ACCESSES, FILE, NUMBERS};
 use frames::places;
-use libc::{STDIN_FILENO, STDOUT_FILENO};
+use std::io::{Read, Write};
 
 // How a request ends: it is answered; there is none, or nobody takes the answer; or it cannot be answered, and why.
 #[derive(Clone, Copy)]
@@ -17,15 +17,19 @@ pub enum Frame {
 }
 
 // Reads as many bytes as there is room for, and answers whether they were there.
-pub fn read(into: &mut [u8]) -> bool {
-    io::read_full(STDIN_FILENO, into) == into.len()
+pub fn read<R: Read>(from: &mut R, into: &mut [u8]) -> bool
+    ensures { length into.new ≡ length into.old }
+{
+    match input::fill(from, into) {
+        Ok(n) => n == into.len(),
+        Err(_) => false,
+    }
 }
 
-pub fn written(answer: &[u8]) -> Frame {
-    if io::write_all(STDOUT_FILENO, answer) {
-        Frame::Answered
-    } else {
-        Frame::Over
+pub fn written<W: Write>(to: &mut W, answer: &[u8]) -> Frame {
+    match to.write_all(answer) {
+        Ok(()) => Frame::Answered,
+        Err(_) => Frame::Over,
     }
 }
 
@@ -41,26 +45,43 @@ fn placed(operation: u8, request: &[u8; places::ARGUMENTS_ROOM], bytes: &mut [u8
     }
 }
 
-pub fn short(operation: u8, request: &[u8; places::ARGUMENTS_ROOM], bytes: &mut [u8]) -> Frame
+pub fn short<W: Write>(
+    to: &mut W,
+    operation: u8,
+    request: &[u8; places::ARGUMENTS_ROOM],
+    bytes: &mut [u8],
+) -> Frame
     requires { length bytes.old ≡ Places.lent_at }
 {
     let at = placed(operation, request, bytes);
-    written(&bytes[at..])
+    written(to, &bytes[at..])
 }
 
-fn traced(request: &[u8; places::ARGUMENTS_ROOM], bytes: &mut [u8], blocks: &mut [u16]) -> Frame
+fn traced<R: Read, W: Write>(
+    from: &mut R,
+    to: &mut W,
+    request: &[u8; places::ARGUMENTS_ROOM],
+    bytes: &mut [u8],
+    blocks: &mut [u16],
+) -> Frame
     requires request_in_bounds { u32_at request.now Places.trace_accesses ≤ length blocks.old }
     requires request_in_bounds_2 { Places.lent_at + 2 * u32_at request.now Places.trace_accesses ≤ length bytes.old }
 {
-    if !read(&mut bytes[places::LENT_AT..]) {
+    if !read(from, &mut bytes[places::LENT_AT..]) {
         return Frame::Stopped(2);
     }
     let at = answers::traces::answer(request, bytes, blocks);
-    written(&bytes[at..])
+    written(to, &bytes[at..])
 }
 
 // The arguments end with the number of blocks and the number of marks.
-pub fn trace(request: &[u8; places::ARGUMENTS_ROOM], bytes: &mut [u8], blocks: &mut [u16]) -> Frame
+pub fn trace<R: Read, W: Write>(
+    from: &mut R,
+    to: &mut W,
+    request: &[u8; places::ARGUMENTS_ROOM],
+    bytes: &mut [u8],
+    blocks: &mut [u16],
+) -> Frame
     requires in_bounds { Room.bytes ≤ length bytes.old }
     requires in_bounds_2 { Room.accesses ≤ length blocks.old }
 {
@@ -73,22 +94,34 @@ pub fn trace(request: &[u8; places::ARGUMENTS_ROOM], bytes: &mut [u8], blocks: &
         return Frame::Stopped(3);
     }
     let end = places::LENT_AT + 2 * n + m;
-    traced(request, &mut bytes[0..end], blocks)
+    traced(from, to, request, &mut bytes[0..end], blocks)
 }
 
-fn checked(request: &[u8; places::ARGUMENTS_ROOM], bytes: &mut [u8], numbers: &mut [u64]) -> Frame
+fn checked<R: Read, W: Write>(
+    from: &mut R,
+    to: &mut W,
+    request: &[u8; places::ARGUMENTS_ROOM],
+    bytes: &mut [u8],
+    numbers: &mut [u64],
+) -> Frame
     requires request_in_bounds { u32_at request.now Places.check_numbers ≤ length numbers.old }
     requires bytes_len { length bytes.old ≡ Places.lent_at + (u32_at request.now Places.check_file + 8 * u32_at request.now Places.check_numbers) }
 {
-    if !read(&mut bytes[places::LENT_AT..]) {
+    if !read(from, &mut bytes[places::LENT_AT..]) {
         return Frame::Stopped(2);
     }
     let at = answers::checks::answer(request, bytes, numbers);
-    written(&bytes[at..])
+    written(to, &bytes[at..])
 }
 
 // The arguments end with the number of bytes and the number of numbers.
-pub fn check(request: &[u8; places::ARGUMENTS_ROOM], bytes: &mut [u8], numbers: &mut [u64]) -> Frame
+pub fn check<R: Read, W: Write>(
+    from: &mut R,
+    to: &mut W,
+    request: &[u8; places::ARGUMENTS_ROOM],
+    bytes: &mut [u8],
+    numbers: &mut [u64],
+) -> Frame
     requires in_bounds { Room.bytes ≤ length bytes.old }
     requires in_bounds_2 { Room.numbers ≤ length numbers.old }
 {
@@ -101,5 +134,5 @@ pub fn check(request: &[u8; places::ARGUMENTS_ROOM], bytes: &mut [u8], numbers: 
         return Frame::Stopped(3);
     }
     let end = places::LENT_AT + n + 8 * m;
-    checked(request, &mut bytes[0..end], numbers)
+    checked(from, to, request, &mut bytes[0..end], numbers)
 }

@@ -7,9 +7,12 @@ ghost use Rattle.frames.specs.Room as Room;
 use crate::requests::{Frame, read, written};
 use answers::{NUMBERS, SALVAGE};
 use frames::places;
+use std::io::{Read, Write};
 
 // The file is read first, and then what is lent.
-fn salvaged(
+fn salvaged<R: Read, W: Write>(
+    from: &mut R,
+    to: &mut W,
     request: &[u8; places::ARGUMENTS_ROOM],
     file: &mut [u8],
     bytes: &mut [u8],
@@ -19,18 +22,20 @@ fn salvaged(
     requires request_in_bounds { u32_at request.now Places.salvage_numbers ≤ length numbers.old }
     requires bytes_len { length bytes.old ≡ Places.lent_at + u32_at request.now Places.salvage_out + 8 * u32_at request.now Places.salvage_numbers }
 {
-    if !read(file) {
+    if !read(from, file) {
         return Frame::Stopped(2);
     }
-    if !read(&mut bytes[places::LENT_AT..]) {
+    if !read(from, &mut bytes[places::LENT_AT..]) {
         return Frame::Stopped(2);
     }
     let at = answers::salvages::answer(request, file, bytes, numbers);
-    written(&bytes[at..])
+    written(to, &bytes[at..])
 }
 
 // As much of the room as the file takes.
-fn part(
+fn part<R: Read, W: Write>(
+    from: &mut R,
+    to: &mut W,
     request: &[u8; places::ARGUMENTS_ROOM],
     file: &mut [u8],
     bytes: &mut [u8],
@@ -41,11 +46,13 @@ fn part(
     requires bytes_len { length bytes.old ≡ Places.lent_at + u32_at request.now Places.salvage_out + 8 * u32_at request.now Places.salvage_numbers }
 {
     let n = layout::u32_at(request, 0) as usize;
-    salvaged(request, &mut file[0..n], bytes, numbers)
+    salvaged(from, to, request, &mut file[0..n], bytes, numbers)
 }
 
 // The room is lent on as a list.
-fn with_file(
+fn with_file<R: Read, W: Write>(
+    from: &mut R,
+    to: &mut W,
     request: &[u8; places::ARGUMENTS_ROOM],
     file: &mut [u8; SALVAGE],
     bytes: &mut [u8],
@@ -55,11 +62,13 @@ fn with_file(
     requires request_in_bounds { u32_at request.now Places.salvage_numbers ≤ length numbers.old }
     requires bytes_len { length bytes.old ≡ Places.lent_at + u32_at request.now Places.salvage_out + 8 * u32_at request.now Places.salvage_numbers }
 {
-    part(request, file, bytes, numbers)
+    part(from, to, request, file, bytes, numbers)
 }
 
 // The arguments: the number of bytes of the file, of lent bytes, of numbers.
-pub fn salvage(
+pub fn salvage<R: Read, W: Write>(
+    from: &mut R,
+    to: &mut W,
     request: &[u8; places::ARGUMENTS_ROOM],
     bytes: &mut [u8],
     numbers: &mut [u64],
@@ -81,5 +90,5 @@ pub fn salvage(
     }
     let mut file = [0u8; SALVAGE];
     let end = places::LENT_AT + m + 8 * d;
-    with_file(request, &mut file, &mut bytes[0..end], numbers)
+    with_file(from, to, request, &mut file, &mut bytes[0..end], numbers)
 }

@@ -7,6 +7,7 @@ ghost use Rattle.frames.specs.Room as Room;
 use crate::requests::{Frame, read, written};
 use answers::{COSTS, FILE};
 use frames::places;
+use std::io::{Read, Write};
 
 // The room is lent on as a list.
 fn placed(
@@ -22,21 +23,31 @@ fn placed(
     answers::times::answer(request, bytes, costs, out);
 }
 
-fn timed(request: &[u8; places::ARGUMENTS_ROOM], bytes: &mut [u8]) -> Frame
+fn timed<R: Read, W: Write>(
+    from: &mut R,
+    to: &mut W,
+    request: &[u8; places::ARGUMENTS_ROOM],
+    bytes: &mut [u8],
+) -> Frame
     requires request_bound { u32_at request.now Places.time_costs ≤ Room.costs }
     requires bytes_len { length bytes.old ≡ u32_at request.now Places.time_file + 4 * u32_at request.now Places.time_costs }
 {
-    if !read(bytes) {
+    if !read(from, bytes) {
         return Frame::Stopped(2);
     }
     let mut costs = [0u32; COSTS];
     let mut out = [0u8; places::CYCLES_SIZE];
     placed(request, bytes, &mut costs, &mut out);
-    written(&out)
+    written(to, &out)
 }
 
 // The arguments end with the number of bytes and the number of costs.
-pub fn time(request: &[u8; places::ARGUMENTS_ROOM], bytes: &mut [u8]) -> Frame
+pub fn time<R: Read, W: Write>(
+    from: &mut R,
+    to: &mut W,
+    request: &[u8; places::ARGUMENTS_ROOM],
+    bytes: &mut [u8],
+) -> Frame
     requires { Room.bytes ≤ length bytes.old }
 {
     let n = layout::u32_at(request, places::TIME_FILE) as usize;
@@ -48,5 +59,5 @@ pub fn time(request: &[u8; places::ARGUMENTS_ROOM], bytes: &mut [u8]) -> Frame
         return Frame::Stopped(3);
     }
     let end = n + 4 * m;
-    timed(request, &mut bytes[0..end])
+    timed(from, to, request, &mut bytes[0..end])
 }

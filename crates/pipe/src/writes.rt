@@ -8,6 +8,7 @@ ghost use Rattle.frames.specs.Room as Room;
 use crate::requests::{Frame, read, written};
 use answers::{ACCESSES, EDGES, HEADS, LOOPS, NODES, OUT};
 use frames::places;
+use std::io::{Read, Write};
 
 // The room is lent on as lists.
 fn placed(
@@ -30,7 +31,13 @@ fn placed(
     answers::writes::answer(request, bytes, nodes, edges, loops, heads, rows)
 }
 
-fn wrote(request: &[u8; places::ARGUMENTS_ROOM], bytes: &mut [u8], rows: &mut [u16]) -> Frame
+fn wrote<R: Read, W: Write>(
+    from: &mut R,
+    to: &mut W,
+    request: &[u8; places::ARGUMENTS_ROOM],
+    bytes: &mut [u8],
+    rows: &mut [u16],
+) -> Frame
     requires request_bound { u32_at request.now Places.write_nodes ≤ Room.nodes }
     requires request_bound_2 { u32_at request.now Places.write_edges ≤ Room.edges }
     requires request_bound_3 { u32_at request.now Places.write_loops ≤ Room.loops }
@@ -38,7 +45,7 @@ fn wrote(request: &[u8; places::ARGUMENTS_ROOM], bytes: &mut [u8], rows: &mut [u
     requires request_in_bounds { u32_at request.now Places.write_rows ≤ length rows.old }
     requires request_in_bounds_2 { Places.lent_at + Frames.bytes_from request.now ≤ length bytes.old }
 {
-    if !read(&mut bytes[places::LENT_AT..]) {
+    if !read(from, &mut bytes[places::LENT_AT..]) {
         return Frame::Stopped(2);
     }
     let mut nodes = [0u16; NODES];
@@ -48,11 +55,17 @@ fn wrote(request: &[u8; places::ARGUMENTS_ROOM], bytes: &mut [u8], rows: &mut [u
     let at = placed(
         request, bytes, &mut nodes, &mut edges, &mut loops, &mut heads, rows,
     );
-    written(&bytes[at..])
+    written(to, &bytes[at..])
 }
 
 // The arguments end with how many numbers each list has, and how many bytes are lent.
-pub fn write(request: &[u8; places::ARGUMENTS_ROOM], bytes: &mut [u8], rows: &mut [u16]) -> Frame
+pub fn write<R: Read, W: Write>(
+    from: &mut R,
+    to: &mut W,
+    request: &[u8; places::ARGUMENTS_ROOM],
+    bytes: &mut [u8],
+    rows: &mut [u16],
+) -> Frame
     requires in_bounds { Room.bytes ≤ length bytes.old }
     requires in_bounds_2 { Room.accesses ≤ length rows.old }
 {
@@ -81,5 +94,5 @@ pub fn write(request: &[u8; places::ARGUMENTS_ROOM], bytes: &mut [u8], rows: &mu
         return Frame::Stopped(3);
     }
     let end = places::LENT_AT + 2 * n + 2 * e + 4 * l + 2 * h + 2 * r + m;
-    wrote(request, &mut bytes[0..end], rows)
+    wrote(from, to, request, &mut bytes[0..end], rows)
 }

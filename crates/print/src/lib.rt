@@ -5,8 +5,9 @@ ghost use Rattle.std.specs.Prelude.{◌+◌, ◌≤◌, length};
 ghost use Rattle.paper.specs.Listings.{decimal, line as Listings·line, line_of_two, refusal_line};
 ghost use Rattle.puts.specs.Put.{Fits, Put};
 
-use libc::STDOUT_FILENO;
+use itoa::Buffer;
 use paper::Refusal;
+use std::io;
 
 // Puts a word at a place, and answers the place after it.
 pub fn word(out: &mut [u8], at: usize, word: &[u8]) -> usize
@@ -28,9 +29,8 @@ pub fn number(out: &mut [u8], at: usize, n: u64) -> usize
     requires { Fits out.old at (decimal n) }
     ensures { Put out.old at (decimal n) result out.new }
 {
-    let mut digits = [0u8; 20];
-    let length = io::decimal(n, &mut digits);
-    word(out, at, &digits[..length])
+    let mut digits = Buffer::new();
+    word(out, at, digits.format(n).as_bytes())
 }
 
 // A line with one number.
@@ -64,8 +64,9 @@ pub fn refusal(out: &mut [u8], at: usize, r: Refusal) -> usize
 }
 
 // Writes what stands before a place to standard output.
-pub fn send(out: &[u8], at: usize) {
+pub fn send(rt: &impl Print, out: &[u8], at: usize) -> io::Result<()> {
     if at <= out.len() {
-        io::write_all(STDOUT_FILENO, &out[0..at]);
+        rt.write_all(&out[0..at])?;
     }
+    Ok(())
 }

@@ -1,10 +1,10 @@
 // The next-bits table for eight ways, to lay beside the board manual.
 #![tactic(auto)]
 
-use libc::STDOUT_FILENO;
+use std::io;
 
-fn main() {
+fn main(rt: HostRuntime) -> io::Result<()> {
     let mut out = [0u8; patterns::LENGTH];
     patterns::patterns(&mut out);
-    io::write_all(STDOUT_FILENO, &out);
+    rt.write_all(&out)
 }

@@ -1,0 +1,25 @@
+-- `print::word` puts its bytes one after another: after i of them the others are left.
+use native.Mathlib.Numerals.{add-one}
+use native.Mathlib.Omega.{arith}
+use lib.ListN.{length-drop, drop_of_length-le}
+use lib.Seq.{drop-cons}
+use Rattle.puts.proofs.Putting.{left_start, left_fits, left_more, left_end, put_one}
+use Rattle.print.proofs.word.Goals as goal
+
+pub bounds-out-to : goal.bounds-out-to
+bounds-out-to c = omega (arith, (left_fits c.requires c.loop-i.invariant).room, length-drop c.loop-i.i c.args.word.now)
+
+pub overflow_add-to : goal.overflow_add-to
+overflow_add-to c = omega (arith, bounds-out-to c)
+
+pub loop-i-preserved : goal.loop-i-preserved
+loop-i-preserved c =
+    let a = c.args in
+    let l = c.loop-i in
+    left_more put_one (rw (drop-cons a.word.now l.i 0 c.loop-i-test.true, ← add-one) at l.invariant)
+
+pub returns : goal.returns
+returns c = left_end (rw (drop_of_length-le _ c.loop-i-test.false) at c.loop-i.invariant)
+
+pub loop-i-init : goal.loop-i-init
+loop-i-init c = left_start
