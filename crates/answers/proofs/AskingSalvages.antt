@@ -1,5 +1,5 @@
 -- What a salvage is asked for, from what is read: the file by itself, the lent bytes and the numbers behind them. And where its answer stands.
-use Prim.Native.Nat.{ℕ, ◌+◌, ◌-◌, ◌*◌, ◌≤◌}
+use Prim.Native.Nat.{ℕ, ◌+◌, ◌-◌, ◌≤◌}
 use native.Mathlib.Omega.{arith}
 use mathlib.Core.Path.{◌≡◌, refl, sym, ◌∙◌, ap}
 use mathlib.Core.List.{List, [], ◌++◌, append-nil, append_assoc}

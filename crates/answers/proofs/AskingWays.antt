@@ -1,6 +1,6 @@
 -- All ways: what is asked for, from what is read.
 use Prim.Native.Nat.{ℕ}
-use mathlib.Core.Path.{◌≡◌, ◌∙◌}
+use mathlib.Core.Path.{◌≡◌}
 use mathlib.Core.List.{List}
 use Rattle.paper.specs.declared.WaysAnswer.{WaysAnswer}
 use Rattle.paper.specs.Files.{u8_at, u32_at}

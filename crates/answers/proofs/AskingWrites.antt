@@ -6,12 +6,12 @@ use mathlib.Core.List.{List, ◌++◌}
 use lib.ListN.{length, take, drop}
 use lib.Seq.{drop-drop}
 use Rattle.paper.specs.declared.WriteAnswer.{WriteAnswer}
-use Rattle.paper.specs.Files.{u8_at, u32_at}
+use Rattle.paper.specs.Files.{u8_at}
 use Rattle.paper.specs.Writing.{FileContent}
 use Rattle.frames.specs.declared.Head.{Head}
 use Rattle.frames.specs.Little.{u16s, u32s}
 use Rattle.frames.specs.Places as Places
-use Rattle.frames.specs.Frames.{Counted, content_with, content_asked, edges_from, loops_from, heads_from, rows_from, bytes_from, Wrote, wrote, write_asked, write_head, write_frame, front}
+use Rattle.frames.specs.Frames.{Counted, content_with, content_asked, edges_from, loops_from, heads_from, rows_from, bytes_from, wrote, write_asked, write_head, write_frame, front}
 use Rattle.frames.proofs.FilledLists.{part_rest}
 use Rattle.frames.proofs.Answering.{front_same}
 use Rattle.bolgverk.specs.Promises.{WritePromise}

@@ -1,0 +1,12 @@
+-- `answers::ways::put_answer`: head and counts are one text, and it fills the bytes.
+use mathlib.Core.Path.{◌∙◌}
+use borrow.Author.Rules.{rules}
+use Rattle.puts.proofs.Putting.{put_then}
+use Rattle.frames.specs.Frames.{ways_frame}
+use Rattle.frames.proofs.Answering.{put_all, front_same}
+use Rattle.answers.proofs.ways.put_answer.Goals as goal
+
+pub returns : goal.returns
+unfolding ways_frame
+returns c =
+    put_all {l = c.args.out.now} (search rules) (put_then c.front-after_head.ensures.put c.put_numbers.ensures.put) ∙ front_same 9 0 _ c.check.ensures
