@@ -10,7 +10,6 @@ use lib.ListN.{length, get_or, take, drop}
 use lib.Seq.{take_all, length-take-le}
 use borrow.Author.Tests.{lt-ltb, lt-leb, le-leb}
 use Rattle.paper.specs.declared.Refusal.{Refusal}
-use Rattle.paper.specs.declared.Verdict.{Verdict}
 use Rattle.paper.specs.declared.Verdict.TheVariants.{Accepted, Refused}
 use Rattle.paper.specs.declared.WaysAnswer.{WaysAnswer}
 use Rattle.paper.specs.AllWays.{misses_with, ways_verdict, ways_counts, all_ways}

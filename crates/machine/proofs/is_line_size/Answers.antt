@@ -1,4 +1,5 @@
 -- The test is the definition, in its order.
+use native.Mathlib.Omega.{arith}
 use mathlib.Core.Logic.{⊎_elim, ◌≢◌}
 use borrow.Author.Tests.{ne_eqb}
 use Rattle.paper.specs.Machines.{stands}

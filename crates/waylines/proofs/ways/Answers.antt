@@ -1,0 +1,17 @@
+-- `waylines::ways` tests the length as `ways_of` does.
+use mathlib.Core.Path.{sym, ◌∙◌}
+use Rattle.listing.proofs.ListingTexts.{printed_as}
+use Rattle.waylines.proofs.WayTexts.{whole_text, not_whole_text}
+use Rattle.waylines.proofs.ways.Goals as goal
+
+pub with_room-requires : goal.with_room-requires
+with_room-requires c =
+    sym c.is_whole.ensures ∙ c.if-is_whole.true
+
+pub returns-then-is_whole : goal.returns-then-is_whole
+returns-then-is_whole c =
+    printed_as (whole_text _ (sym c.is_whole.ensures ∙ c.if-is_whole.true)) c.with_room.ensures
+
+pub returns-else-is_whole : goal.returns-else-is_whole
+returns-else-is_whole c =
+    printed_as (not_whole_text _ _ (sym c.is_whole.ensures ∙ c.if-is_whole.false) c.refuse.ensures) c.refused.ensures
