@@ -1,6 +1,6 @@
 -- The test is the definition, in its order.
-use native.Mathlib.Omega.{arith}
-use mathlib.Core.Logic.{⊎_elim, ◌≢◌}
+use mathlib.Core.Path.{sym}
+use mathlib.Core.Logic.{⊎_elim, inl, inr}
 use borrow.Author.Tests.{ne_eqb}
 use Rattle.paper.specs.Machines.{stands}
 use Rattle.paper.specs.Operations.{line_size}
@@ -13,9 +13,11 @@ returns-in-8 c = ⊎_elim (λ e. rw e) (⊎_elim (λ e. rw e) (⊎_elim (λ e. r
 pub returns-in_default : goal.returns-in_default
 unfolding line_size stands
 returns-in_default c =
-    let n8 : 8 ≢ c.args.n = omega arith in
-    let n16 : 16 ≢ c.args.n = omega arith in
-    let n32 : 32 ≢ c.args.n = omega arith in
-    let n64 : 64 ≢ c.args.n = omega arith in
-    let n128 : 128 ≢ c.args.n = omega arith in
-    rw (ne_eqb 8 _ n8, ne_eqb 16 _ n16, ne_eqb 32 _ n32, ne_eqb 64 _ n64, ne_eqb 128 _ n128)
+    let r = c.in_default.in_default-own.rest.1 in
+    rw (
+      ne_eqb 8 _ (λ e. r (inl (sym e))),
+      ne_eqb 16 _ (λ e. r (inr (inl (sym e)))),
+      ne_eqb 32 _ (λ e. r (inr (inr (inl (sym e))))),
+      ne_eqb 64 _ (λ e. r (inr (inr (inr (inl (sym e)))))),
+      ne_eqb 128 _ (λ e. r (inr (inr (inr (inr (sym e)))))),
+    )
