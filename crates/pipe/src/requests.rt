@@ -17,9 +17,7 @@ pub enum Frame {
 }
 
 // Reads as many bytes as there is room for, and answers whether they were there.
-pub fn read<R: Read>(from: &mut R, into: &mut [u8]) -> bool
-    ensures { length into.new ≡ length into.old }
-{
+pub fn read<R: Read>(from: &mut R, into: &mut [u8]) -> bool {
     match input::fill(from, into) {
         Ok(n) => n == into.len(),
         Err(_) => false,
