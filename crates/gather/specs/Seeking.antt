@@ -1,5 +1,5 @@
 -- What the search is handed, and what it says of a case and of the fact that is sought in it.
-use Rattle.std.specs.Prelude.{ℕ, ◌%◌, ◌≤◌, ◌<◌, ◌≡◌}
+use Rattle.std.specs.Prelude.{◌%◌, ◌≤◌, ◌<◌, ◌≡◌}
 use Rattle.paper.specs.Shifts.{sets_of}
 use Rattle.paper.specs.Cases.{Fact, Case, scope_of}
 use Rattle.gather.specs.declared.Sought.{Sought}

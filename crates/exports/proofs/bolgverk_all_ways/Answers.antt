@@ -1,5 +1,4 @@
 -- `exports::bolgverk_all_ways` tells what `bolgverk::all_ways` answers.
-use borrow.Author.Rules.{rules}
 use Rattle.exports.proofs.Calling.{ways_call}
 use Rattle.exports.proofs.bolgverk_all_ways.Goals as goal
 

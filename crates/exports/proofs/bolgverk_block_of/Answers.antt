@@ -1,5 +1,4 @@
 -- `exports::bolgverk_block_of` tells what `bolgverk::block_of` answers.
-use borrow.Author.Rules.{rules}
 use Rattle.exports.proofs.Calling.{block_call}
 use Rattle.exports.proofs.bolgverk_block_of.Goals as goal
 

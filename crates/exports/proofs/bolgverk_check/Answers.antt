@@ -1,5 +1,4 @@
 -- `exports::bolgverk_check` tells what `bolgverk::check` answers.
-use borrow.Author.Rules.{rules}
 use Rattle.exports.proofs.Calling.{check_call}
 use Rattle.exports.proofs.bolgverk_check.Goals as goal
 

@@ -1,5 +1,4 @@
 -- `exports::bolgverk_find` tells what `bolgverk::find` answers.
-use borrow.Author.Rules.{rules}
 use Rattle.exports.proofs.Calling.{find_call}
 use Rattle.exports.proofs.bolgverk_find.Goals as goal
 

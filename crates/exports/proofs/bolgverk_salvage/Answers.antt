@@ -1,5 +1,4 @@
 -- `exports::bolgverk_salvage` tells what `bolgverk::salvage` answers.
-use borrow.Author.Rules.{rules}
 use Rattle.exports.proofs.Calling.{salvage_call}
 use Rattle.exports.proofs.bolgverk_salvage.Goals as goal
 

@@ -1,5 +1,4 @@
 -- `exports::bolgverk_set_of` tells what `bolgverk::set_of` answers.
-use borrow.Author.Rules.{rules}
 use Rattle.exports.proofs.Calling.{set_call}
 use Rattle.exports.proofs.bolgverk_set_of.Goals as goal
 

@@ -1,6 +1,5 @@
 -- `exports::bolgverk_step` tells what `bolgverk::step` answers, and writes its state.
 use mathlib.Core.Path.{refl}
-use borrow.Author.Rules.{rules}
 use Rattle.exports.proofs.Calling.{step_call}
 use Rattle.exports.proofs.bolgverk_step.Goals as goal
 

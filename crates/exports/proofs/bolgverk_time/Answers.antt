@@ -1,5 +1,4 @@
 -- `exports::bolgverk_time` tells what `bolgverk::time` answers.
-use borrow.Author.Rules.{rules}
 use Rattle.exports.proofs.Calling.{time_call}
 use Rattle.exports.proofs.bolgverk_time.Goals as goal
 

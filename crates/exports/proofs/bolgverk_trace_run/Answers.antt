@@ -1,5 +1,4 @@
 -- `exports::bolgverk_trace_run` tells what `bolgverk::trace_run` answers.
-use borrow.Author.Rules.{rules}
 use Rattle.exports.proofs.Calling.{trace_call}
 use Rattle.exports.proofs.bolgverk_trace_run.Goals as goal
 

@@ -1,5 +1,4 @@
 -- `exports::bolgverk_write` tells what `bolgverk::write` answers.
-use borrow.Author.Rules.{rules}
 use Rattle.exports.proofs.Calling.{write_call}
 use Rattle.exports.proofs.bolgverk_write.Goals as goal
 

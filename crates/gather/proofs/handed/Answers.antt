@@ -1,5 +1,4 @@
 -- `gather::handed`: the slots' blocks, then x where it counts.
-use borrow.Author.Rules.{rules}
 use Rattle.search.specs.Steps.{handed}
 use Rattle.gather.proofs.handed.Goals as goal
 

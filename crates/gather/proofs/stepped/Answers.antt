@@ -1,6 +1,5 @@
 -- `gather::stepped`: one return for each branch of the rule.
 use mathlib.Core.Path.{refl, sym, ◌∙◌}
-use borrow.Author.Rules.{rules}
 use borrow.Author.Tests.{eq-eqb, ne_eqb}
 use Rattle.search.specs.Steps.{stepped}
 use Rattle.gather.proofs.stepped.Goals as goal

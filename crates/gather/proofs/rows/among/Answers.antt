@@ -1,6 +1,5 @@
 -- `gather::rows::among`: the chain of seven comparisons is what the definition computes to.
 use mathlib.Core.Path.{refl}
-use borrow.Author.Rules.{rules}
 use Rattle.search.specs.Steps.{among, among_to}
 use Rattle.gather.proofs.rows.among.Goals as goal
 

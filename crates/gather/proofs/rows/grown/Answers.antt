@@ -1,6 +1,5 @@
 -- `gather::rows::grown`: each slot by its own comparison, and the eight make the rule.
 use native.Mathlib.Numerals.{add-one}
-use borrow.Author.Rules.{rules}
 use Rattle.lines.proofs.Eight.{made_of}
 use Rattle.search.specs.Steps.{placed, grown_at, grown}
 use Rattle.gather.proofs.rows.grown.Goals as goal

@@ -1,6 +1,5 @@
 -- `gather::rows::lowered`: the one test decides.
 use mathlib.Core.Path.{refl}
-use borrow.Author.Rules.{rules}
 use Rattle.search.specs.Steps.{lowered}
 use Rattle.gather.proofs.rows.lowered.Goals as goal
 

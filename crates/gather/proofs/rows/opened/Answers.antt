@@ -1,6 +1,5 @@
 -- `gather::rows::opened`: the one comparison decides.
 use mathlib.Core.Path.{refl}
-use borrow.Author.Rules.{rules}
 use borrow.Author.Tests.{eq-eqb, ne_eqb}
 use Rattle.search.specs.Steps.{opened}
 use Rattle.gather.proofs.rows.opened.Goals as goal

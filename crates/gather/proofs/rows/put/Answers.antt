@@ -1,6 +1,5 @@
 -- `gather::rows::put`: one return for each branch of the rule.
 use mathlib.Core.Path.{refl}
-use borrow.Author.Rules.{rules}
 use Rattle.search.specs.Steps.{put}
 use Rattle.gather.proofs.rows.put.Goals as goal
 

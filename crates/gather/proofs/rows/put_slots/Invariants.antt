@@ -1,12 +1,8 @@
 -- `gather::rows::put_slots`: one slot more in each turn.
-use Prim.Native.Nat.{ℕ, suc, ◌+◌, ◌-◌, ◌≤◌}
-use native.Mathlib.Omega.{arith}
-use native.Mathlib.Numerals.{add-one}
-use mathlib.Core.Path.{◌≡◌, refl, ◌∙◌, ap}
-use mathlib.Core.List.{List}
-use lib.ListN.{length, get_or}
-use borrow.Author.Rules.{rules}
-use Rattle.search.specs.Steps.{put, put_slots}
+use Prim.Native.Nat.{◌-◌, ◌≤◌}
+use mathlib.Core.Path.{◌≡◌}
+use lib.ListN.{length}
+use Rattle.search.specs.Steps.{put_slots}
 use Rattle.gather.proofs.rows.put_slots.Given as goal
 
 abbrev pub invariant-loop-i : goal.invariant-loop-i
