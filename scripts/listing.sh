@@ -15,13 +15,13 @@ fail() { # SENTENCE
 }
 
 # What was proved: the kit, the sources and the program that came of them.
-now() { (cd "$tree" && find "$kit/KIT-ID" crates.txt crates "target/bin/$name" -type f -exec sha256sum {} + | sort) 2>/dev/null; }
+now() { (cd "$tree" && find "$kit/KIT-ID" crates.txt crates "target/bin/$name" -name out -prune -o -type f -exec sha256sum {} + | sort) 2>/dev/null; }
 
 # Two calls of rt at once get in each other's way, so rt is called only where something changed, and one call waits for the other, whichever program it is for, where the machine has flock.
 prove() {
     echo "$name: the program is proved and built first, which may take some minutes" >&2
     lock=$(command -v flock)
-    said=$(cd "$tree" && mkdir -p target && ${lock:+"$lock" target/listing.lock} rt check "$name" 2>&1 </dev/null) || {
+    said=$(cd "$tree" && mkdir -p target && ${lock:+"$lock" target/listing.lock} scripts/build "$name" 2>&1 </dev/null) || {
         printf '%s\n' "$said" >&2
         fail 'the program is not proved as its sources are now'
     }
