@@ -10,7 +10,7 @@ pub fn run(rt: &(impl Input + Print + Eprint), name: &str, interruptions: u16) -
         return eprintln!(rt; "{name}: the input cannot be read to its end");
     };
     let r = crate::listing(&bytes[..n], interruptions, &mut out);
-    match print::send(rt, &out, r) {
+    match rt.write_all(&out[0..r]) {
         Ok(()) => Ok(()),
         Err(_) => eprintln!(rt; "{name}: the output cannot be written"),
     }
