@@ -1,4 +1,5 @@
 -- What is asked for, from what is read: the arguments in their order, and the parts of the lent memory.
+use Rattle.std.specs.Prelude.{Result}
 use Prim.Native.Nat.{ℕ, ◌+◌, ◌-◌, ◌*◌, ◌≤◌}
 use native.Mathlib.Omega.{arith}
 use mathlib.Core.Path.{◌≡◌, sym, ◌∙◌, ap, subst}
@@ -7,8 +8,7 @@ use lib.ListN.{length, take, drop, drop_of_length-le}
 use lib.Seq.{drop-drop, drop_at, length-take-le}
 use borrow.Rule.Slice.PartMut.{put_mid}
 use Rattle.paper.specs.declared.StepAnswer.{StepAnswer}
-use Rattle.paper.specs.declared.TraceAnswer.{TraceAnswer}
-use Rattle.paper.specs.declared.Verdict.{Verdict}
+use Rattle.paper.specs.Answers.{Verdict}
 use Rattle.paper.specs.Files.{u8_at, u16_at, u32_at}
 use Rattle.paper.specs.Verdicts.{verdict}
 use Rattle.frames.specs.declared.Head.{Head}
@@ -18,6 +18,7 @@ use Rattle.frames.specs.Frames.{check_head, front, check_frame, step_asked, trac
 use Rattle.frames.proofs.FilledLists.{part_rest}
 use Rattle.bolgverk.specs.Promises.{StepPromise, TracePromise, CheckPromise}
 use Rattle.bolgverk.proofs.Determined.{step_answer_lem, trace_answer, check_answer}
+use Rattle.paper.specs.declared.Refusal.{Refusal}
 
 pub drop_place : (l : List ℕ) (a b : ℕ) {m : List ℕ} → a ≡ b → drop b l ≡ m → drop a l ≡ m
 drop_place l a b {m} e h = subst (λ (k : ℕ). drop k l ≡ m) (sym e) h
@@ -36,7 +37,7 @@ module _ (r : List ℕ) where
 
   -- l: the bytes, with the lent memory from its place on
   module _ (l : List ℕ) where
-    pub trace_asked_lem : {blocks after : List ℕ} {n : ℕ} {a : TraceAnswer} → n ≡ u32_at r Places.trace_accesses → blocks ≡ u16s (take (length l - Places.lent_at) (drop Places.lent_at l)) n →
+    pub trace_asked_lem : {blocks after : List ℕ} {n : ℕ} {a : (Result ℕ Refusal)} → n ≡ u32_at r Places.trace_accesses → blocks ≡ u16s (take (length l - Places.lent_at) (drop Places.lent_at l)) n →
         TracePromise (u8_at r 0) (u8_at r Places.trace_ways) (u8_at r Places.trace_sets) blocks (take (length l - (Places.lent_at + 2 * n)) (drop (Places.lent_at + 2 * n) l)) a after →
         (a ≡ (trace_asked r (drop Places.lent_at l)).answer) × (after ≡ (trace_asked r (drop Places.lent_at l)).marks)
     unfolding trace_asked

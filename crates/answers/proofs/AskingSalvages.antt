@@ -1,4 +1,5 @@
 -- What a salvage is asked for, from what is read: the file by itself, the lent bytes and the numbers behind them. And where its answer stands.
+use Rattle.std.specs.Prelude.{Result}
 use Prim.Native.Nat.{ℕ, ◌+◌, ◌-◌, ◌≤◌}
 use native.Mathlib.Omega.{arith}
 use mathlib.Core.Path.{◌≡◌, refl, sym, ◌∙◌, ap}
@@ -6,7 +7,6 @@ use mathlib.Core.List.{List, [], ◌++◌, append-nil, append_assoc}
 use lib.ListN.{length, take, drop, length-append, length-drop, drop_of_length-le}
 use lib.Seq.{sets-eq, take_at, drop_at, drop-drop, length-take-le}
 use borrow.Rule.Slice.PartMut.{put_mid}
-use Rattle.paper.specs.declared.SalvageAnswer.{SalvageAnswer}
 use Rattle.paper.specs.Files.{u32_at}
 use Rattle.puts.specs.Put.{Put}
 use Rattle.frames.specs.declared.SalvageHead.{SalvageHead}
@@ -16,6 +16,8 @@ use Rattle.frames.specs.Frames.{SalvageLeft, salvage_left, salvage_asked, salvag
 use Rattle.frames.proofs.FilledLists.{part_rest}
 use Rattle.bolgverk.specs.Promises.{SalvagePromise}
 use Rattle.bolgverk.proofs.Determined.{salvage_answer_lem}
+use Rattle.paper.specs.declared.Refusal.{Refusal}
+use Rattle.paper.specs.declared.Salvage.{Salvage}
 
 -- a part of m elements that is lent from place a on, when it comes back: what stands up to its end
 pub part_left : (l ys : List ℕ) (a : ℕ) {m n : ℕ} → m ≡ n → a + m ≤ length l → length ys ≡ length (take (a + m - a) (drop a l)) →
@@ -52,7 +54,7 @@ module _ (r file l : List ℕ) (n : length file ≡ u32_at r 0) where
       )
       refl
 
-  pub salvage_asked_lem : {numbers after listAfter : List ℕ} {m d : ℕ} {a : SalvageAnswer} → m ≡ u32_at r Places.salvage_out → d ≡ u32_at r Places.salvage_numbers →
+  pub salvage_asked_lem : {numbers after listAfter : List ℕ} {m d : ℕ} {a : (Result Salvage Refusal)} → m ≡ u32_at r Places.salvage_out → d ≡ u32_at r Places.salvage_numbers →
       numbers ≡ u64s (take (length l - (Places.lent_at + m)) (drop (Places.lent_at + m) l)) d →
       SalvagePromise file (take (Places.lent_at + m - Places.lent_at) (drop Places.lent_at l)) numbers a after listAfter →
       let s = salvage_asked r (file ++ drop Places.lent_at l) in
@@ -64,7 +66,7 @@ module _ (r file l : List ℕ) (n : length file ≡ u32_at r 0) where
       rw (← asked_left e k, c) (rw z at (salvage_answer_lem _ _ _ _ _ _ p), rw z at p.bytes, rw z at p.dropped)
 
 -- the head of what is asked for, and behind it the lent bytes and the numbers
-pub salvage_framed : (s : SalvageLeft) {h : SalvageHead} {a : SalvageAnswer} {list : List ℕ} → h ≡ salvage_head a → a ≡ s.answer → list ≡ s.list →
+pub salvage_framed : (s : SalvageLeft) {h : SalvageHead} {a : (Result Salvage Refusal)} {list : List ℕ} → h ≡ salvage_head a → a ≡ s.answer → list ≡ s.list →
     salvage_front h ++ (s.out ++ littles 8 list) ≡ salvage_frame s
 salvage_framed s {h} {a} {list} e k l =
     ap (λ (x : SalvageHead). salvage_front x ++ (s.out ++ littles 8 list)) (e ∙ ap salvage_head k)

@@ -1,11 +1,11 @@
 -- What a writer is asked for, from what is read: the lists one after another in the lent memory, and the lent bytes behind them.
+use Rattle.std.specs.Prelude.{Result}
 use Prim.Native.Nat.{ℕ, ◌+◌, ◌-◌, ◌*◌}
 use native.Mathlib.Omega.{arith}
 use mathlib.Core.Path.{◌≡◌, sym, ◌∙◌, ap}
 use mathlib.Core.List.{List, ◌++◌}
 use lib.ListN.{length, take, drop}
 use lib.Seq.{drop-drop}
-use Rattle.paper.specs.declared.WriteAnswer.{WriteAnswer}
 use Rattle.paper.specs.Files.{u8_at}
 use Rattle.paper.specs.Writing.{FileContent}
 use Rattle.frames.specs.declared.Head.{Head}
@@ -16,6 +16,7 @@ use Rattle.frames.proofs.FilledLists.{part_rest}
 use Rattle.frames.proofs.Answering.{front_same}
 use Rattle.bolgverk.specs.Promises.{WritePromise}
 use Rattle.bolgverk.proofs.Determined.{write_answer_lem}
+use Rattle.paper.specs.declared.Refusal.{Refusal}
 
 -- a list that is read from a place of the bytes on, as the one that stands in the lent memory
 pub listed : (read : List ℕ → ℕ → List ℕ) (l : List ℕ) (from : ℕ) {xs : List ℕ} {p n m : ℕ} → xs ≡ read (drop p l) n → p ≡ Places.lent_at + from → n ≡ m →
@@ -50,7 +51,7 @@ module _ (r : List ℕ) where
         omega (arith, pw, w.1, k.rows),
       )
 
-  pub write_asked_lem : (l : List ℕ) (at : ℕ) {nodes edges loops heads rows after : List ℕ} {a : WriteAnswer} →
+  pub write_asked_lem : (l : List ℕ) (at : ℕ) {nodes edges loops heads rows after : List ℕ} {a : (Result ℕ Refusal)} →
       WritePromise (u8_at r 0) (u8_at r Places.write_policy) (u8_at r Places.write_ways) (u8_at r Places.write_sets) nodes edges loops heads rows (take (length l - at) (drop at l)) a after →
       (a ≡ (wrote (content_with r nodes edges loops heads rows) (drop at l)).answer) × (after ≡ (wrote (content_with r nodes edges loops heads rows) (drop at l)).after)
   unfolding wrote
@@ -66,6 +67,6 @@ module _ (r : List ℕ) where
       ∙ ap (λ (k : FileContent). wrote k (drop (bytes_from r) (drop Places.lent_at l))) e
 
   -- the frame of what is asked for, where the lent memory is a part of the bytes
-  pub write_framed : (l : List ℕ) {h : Head} {a : WriteAnswer} {c : FileContent} {at : ℕ} → h ≡ write_head a → a ≡ (wrote c (drop at l)).answer → c ≡ content_asked r (drop Places.lent_at l) →
+  pub write_framed : (l : List ℕ) {h : Head} {a : (Result ℕ Refusal)} {c : FileContent} {at : ℕ} → h ≡ write_head a → a ≡ (wrote c (drop at l)).answer → c ≡ content_asked r (drop Places.lent_at l) →
       at ≡ Places.lent_at + bytes_from r → front 6 Places.length_width h ++ (wrote c (drop at l)).after ≡ write_frame (write_asked r (drop Places.lent_at l))
   write_framed l e a k p = front_same 6 Places.length_width _ (e ∙ ap write_head a) ∙ ap write_frame (wrote_asked l k p)

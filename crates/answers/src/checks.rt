@@ -5,11 +5,16 @@ ghost use Rattle.paper.specs.Verdicts.{lent_after};
 ghost use Rattle.frames.specs.Frames as Frames;
 ghost use Rattle.frames.specs.Places as Places;
 
+use frames::operations::Operation;
 use frames::{heads, places};
-use paper::Verdict;
+use paper::Refusal;
 
 // The arguments: the number of interruptions, the number of bytes, the number of numbers. The lent memory: the file, then the numbers.
-fn checked(request: &[u8; places::ARGUMENTS_ROOM], lent: &[u8], numbers: &mut [u64]) -> Verdict
+fn checked(
+    request: &[u8; places::ARGUMENTS_ROOM],
+    lent: &[u8],
+    numbers: &mut [u64],
+) -> Result<(), Refusal>
     requires numbers_len { length numbers.old ≡ u32_at request.now Places.check_numbers }
     requires numbers_in_bounds { u32_at request.now Places.check_file + 8 * length numbers.old ≤ length lent.now }
     ensures value { result ≡ Frames.check_asked request.now lent.now }
@@ -17,7 +22,7 @@ fn checked(request: &[u8; places::ARGUMENTS_ROOM], lent: &[u8], numbers: &mut [u
 {
     let interruptions = layout::u16_at(request, 0);
     let n = layout::u32_at(request, places::CHECK_FILE) as usize;
-    frames::numbers::read_numbers(&lent[n..], numbers);
+    frames::numbers::read_list(&lent[n..], numbers);
     bolgverk::check(&lent[0..n], interruptions, numbers)
 }
 
@@ -27,10 +32,10 @@ fn framed(request: &[u8; places::ARGUMENTS_ROOM], bytes: &mut [u8], numbers: &mu
     requires bytes_len { length bytes.old ≡ Places.lent_at + (u32_at request.now Places.check_file + 8 * length numbers.old) }
     ensures { Frames.Answered (Frames.check_frame (Frames.check_asked request.now (drop Places.lent_at bytes.old)) (Frames.numbers_after request.now (drop Places.lent_at bytes.old))) result bytes.new }
 {
-    let at = places::CHECK_AT + layout::u32_at(request, places::CHECK_FILE) as usize;
+    let end = places::LENT_AT + layout::u32_at(request, places::CHECK_FILE) as usize;
     let head = heads::check(checked(request, &bytes[places::LENT_AT..], numbers));
-    let after_head = frames::front(bytes, at, 5, 0, head);
-    frames::numbers::put_numbers(bytes, after_head, numbers);
+    let at = frames::front_before(bytes, end, Operation::Check, 0, head);
+    frames::numbers::put_list(bytes, end, numbers);
     at
 }
 

@@ -4,11 +4,16 @@ ghost use Rattle.paper.specs.Files.{u32_at};
 ghost use Rattle.frames.specs.Frames as Frames;
 ghost use Rattle.frames.specs.Places as Places;
 
+use frames::operations::Operation;
 use frames::{heads, numbers, places};
-use paper::FindAnswer;
+use paper::Refusal;
 
 // The arguments: scope, block, the number of bytes, the number of numbers. The lent memory: the file, then the numbers.
-fn sought(request: &[u8; places::ARGUMENTS_ROOM], lent: &[u8], rows: &mut [u16]) -> FindAnswer
+fn sought(
+    request: &[u8; places::ARGUMENTS_ROOM],
+    lent: &[u8],
+    rows: &mut [u16],
+) -> Result<Option<u16>, Refusal>
     requires rows_len { length rows.old ≡ u32_at request.now Places.find_numbers }
     requires rows_in_bounds { u32_at request.now Places.find_file + 2 * length rows.old ≤ length lent.now }
     ensures { Frames.FindAsked request.now lent.now result rows.new }
@@ -16,7 +21,7 @@ fn sought(request: &[u8; places::ARGUMENTS_ROOM], lent: &[u8], rows: &mut [u16])
     let scope = layout::u16_at(request, 0);
     let block = layout::u16_at(request, places::FIND_BLOCK);
     let n = layout::u32_at(request, places::FIND_FILE) as usize;
-    numbers::read_blocks(&lent[n..], rows);
+    numbers::read_list(&lent[n..], rows);
     bolgverk::find(&lent[0..n], scope, block, rows)
 }
 
@@ -26,10 +31,10 @@ fn framed(request: &[u8; places::ARGUMENTS_ROOM], bytes: &mut [u8], rows: &mut [
     requires bytes_len { length bytes.old ≡ Places.lent_at + (u32_at request.now Places.find_file + 2 * length rows.old) }
     ensures { Frames.FindAnswered request.now (drop Places.lent_at bytes.old) result bytes.new }
 {
-    let at = places::FIND_AT + layout::u32_at(request, places::FIND_FILE) as usize;
+    let end = places::LENT_AT + layout::u32_at(request, places::FIND_FILE) as usize;
     let head = heads::find(sought(request, &bytes[places::LENT_AT..], rows));
-    let after_head = frames::front(bytes, at, 7, places::LIMIT_WIDTH, head);
-    numbers::put_blocks(bytes, after_head, rows);
+    let at = frames::front_before(bytes, end, Operation::Find, places::LIMIT_WIDTH, head);
+    numbers::put_list(bytes, end, rows);
     at
 }
 

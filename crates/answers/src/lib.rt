@@ -12,10 +12,6 @@ pub mod traces;
 pub mod ways;
 pub mod writes;
 
-ghost use Rattle.std.specs.Prelude.{◌≡◌, ◌≤◌};
-ghost use Rattle.frames.specs.Frames as Frames;
-ghost use Rattle.frames.specs.Places as Places;
-
 use frames::places;
 
 // The fixed room of docs/PIPE.md.
@@ -48,23 +44,3 @@ pub const COSTS: usize = 4096;
 
 // The bytes have room for what stands before the lent memory, then for the lent memory. A check's takes most.
 pub const ROOM: usize = places::LENT_AT + FILE + 8 * NUMBERS;
-
-// How many bytes the arguments of an operation take, the lent memory left out. A writer's take most.
-pub fn argument_bytes(operation: u8) -> usize
-    ensures value { result ≡ Frames.argument_bytes operation }
-    ensures upper_bound { result ≤ Places.arguments_room }
-{
-    match operation {
-        1 => places::STEP_SIZE,
-        2 => places::BLOCK_SIZE,
-        3 => places::SET_SIZE,
-        4 => places::TRACE_SIZE,
-        5 => places::CHECK_SIZE,
-        6 => places::WRITE_SIZE,
-        7 => places::FIND_SIZE,
-        8 => places::SALVAGE_SIZE,
-        9 => places::WAYS_SIZE,
-        10 => places::TIME_SIZE,
-        _ => 0,
-    }
-}

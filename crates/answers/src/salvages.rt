@@ -5,7 +5,7 @@ ghost use Rattle.frames.specs.Frames as Frames;
 ghost use Rattle.frames.specs.Places as Places;
 
 use frames::{heads, numbers, places};
-use paper::SalvageAnswer;
+use paper::{Refusal, Salvage};
 
 // The arguments: the number of bytes of the file, of lent bytes, of numbers. The lent memory: the file, then the lent bytes, then the numbers.
 fn salvaged(
@@ -13,7 +13,7 @@ fn salvaged(
     file: &[u8],
     bytes: &mut [u8],
     numbers: &mut [u64],
-) -> SalvageAnswer
+) -> Result<Salvage, Refusal>
     requires file_len { length file.now ≡ u32_at request.now 0 }
     requires numbers_len { length numbers.old ≡ u32_at request.now Places.salvage_numbers }
     requires numbers_in_bounds { Places.lent_at + u32_at request.now Places.salvage_out + 8 * length numbers.old ≤ length bytes.old }
@@ -22,7 +22,7 @@ fn salvaged(
     ensures numbers_after { numbers.new ≡ (Frames.salvage_asked request.now (file.now ++ drop Places.lent_at bytes.old)).list }
 {
     let end = places::LENT_AT + layout::u32_at(request, places::SALVAGE_OUT) as usize;
-    numbers::read_numbers(&bytes[end..], numbers);
+    numbers::read_list(&bytes[end..], numbers);
     bolgverk::salvage(file, &mut bytes[places::LENT_AT..end], numbers)
 }
 
@@ -40,7 +40,7 @@ fn framed(
 {
     let end = places::LENT_AT + layout::u32_at(request, places::SALVAGE_OUT) as usize;
     let head = heads::salvage(salvaged(request, file, bytes, numbers));
-    numbers::put_numbers(bytes, end, numbers);
+    numbers::put_list(bytes, end, numbers);
     frames::salvage_front(bytes, places::SALVAGE_AT, head);
     places::SALVAGE_AT
 }

@@ -3,8 +3,9 @@ ghost use Rattle.std.specs.Prelude.{◌≡◌, length};
 ghost use Rattle.frames.specs.Frames as Frames;
 ghost use Rattle.frames.specs.Places as Places;
 
+use frames::operations::Operation;
 use frames::{heads, places};
-use paper::{Block, Outcome, SetState, StepAnswer};
+use paper::{Block, Outcome, Refusal, SetState, StepAnswer};
 
 // The arguments: policy, ways, eight lines, bits, block.
 fn stepped(request: &[u8; places::ARGUMENTS_ROOM]) -> StepAnswer
@@ -12,7 +13,7 @@ fn stepped(request: &[u8; places::ARGUMENTS_ROOM]) -> StepAnswer
 {
     let mut lines = [0u16; 8];
     let bytes = &request[..];
-    frames::numbers::read_blocks(&bytes[places::STEP_LINES..], &mut lines);
+    frames::numbers::read_list(&bytes[places::STEP_LINES..], &mut lines);
     let state = SetState {
         lines: lines,
         bits: request[places::STEP_BITS],
@@ -22,12 +23,18 @@ fn stepped(request: &[u8; places::ARGUMENTS_ROOM]) -> StepAnswer
 }
 
 // The answer: the head with hit, miss or refusal, eight lines, bits.
-fn put_answer(out: &mut [u8], outcome: Outcome, lines: [u16; 8], bits: u8) -> usize
+fn put_answer(out: &mut [u8], outcome: Result<Outcome, Refusal>, lines: [u16; 8], bits: u8) -> usize
     requires { length out.old ≡ Places.lent_at }
     ensures { Frames.Answered (Frames.step_frame (Frames.step_of outcome lines bits)) result out.new }
 {
-    let after_head = frames::front(out, 0, 1, places::OUTCOME_WIDTH, heads::step(outcome));
-    let after_lines = frames::numbers::put_blocks(out, after_head, &lines);
+    let after_head = frames::front(
+        out,
+        0,
+        Operation::Step,
+        places::OUTCOME_WIDTH,
+        heads::step(outcome),
+    );
+    let after_lines = frames::numbers::put_list(out, after_head, &lines);
     frames::numbers::put(out, after_lines, 1, bits as u64);
     0
 }

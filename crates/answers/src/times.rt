@@ -4,11 +4,16 @@ ghost use Rattle.paper.specs.Files.{u32_at};
 ghost use Rattle.frames.specs.Frames as Frames;
 ghost use Rattle.frames.specs.Places as Places;
 
+use frames::operations::Operation;
 use frames::{heads, numbers, places};
-use paper::TimeAnswer;
+use paper::Refusal;
 
 // The arguments: interruptions, penalty, the number of bytes, the number of costs. The lent memory: the file, then the costs.
-fn timed(request: &[u8; places::ARGUMENTS_ROOM], lent: &[u8], costs: &mut [u32]) -> TimeAnswer
+fn timed(
+    request: &[u8; places::ARGUMENTS_ROOM],
+    lent: &[u8],
+    costs: &mut [u32],
+) -> Result<u64, Refusal>
     requires costs_len { length costs.old ≡ u32_at request.now Places.time_costs }
     requires costs_in_bounds { u32_at request.now Places.time_file + 4 * length costs.old ≤ length lent.now }
     ensures { result ≡ Frames.time_asked request.now lent.now }
@@ -16,7 +21,7 @@ fn timed(request: &[u8; places::ARGUMENTS_ROOM], lent: &[u8], costs: &mut [u32])
     let interruptions = layout::u16_at(request, 0);
     let penalty = layout::u32_at(request, places::TIME_PENALTY);
     let n = layout::u32_at(request, places::TIME_FILE) as usize;
-    numbers::read_longs_at(lent, n, costs);
+    numbers::read_list_at(lent, n, costs);
     bolgverk::time(&lent[0..n], costs, penalty, interruptions)
 }
 
@@ -27,7 +32,7 @@ fn framed(request: &[u8; places::ARGUMENTS_ROOM], lent: &[u8], costs: &mut [u32]
     ensures { out.new ≡ Frames.time_frame (Frames.time_asked request.now lent.now) }
 {
     let head = heads::time(timed(request, lent, costs));
-    frames::front(out, 0, 10, places::TIME_WIDTH, head);
+    frames::front(out, 0, Operation::Time, places::TIME_WIDTH, head);
 }
 
 // The answer has bytes of its own, as that of all ways, and fills them.

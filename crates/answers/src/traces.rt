@@ -4,22 +4,23 @@ ghost use Rattle.paper.specs.Files.{u32_at};
 ghost use Rattle.frames.specs.Frames as Frames;
 ghost use Rattle.frames.specs.Places as Places;
 
+use frames::operations::Operation;
 use frames::{heads, places};
-use paper::TraceAnswer;
+use paper::Refusal;
 
 // The arguments: policy, ways, sets, the number of blocks, the number of marks. The lent memory: the blocks, then the marks.
 fn traced(
     request: &[u8; places::ARGUMENTS_ROOM],
     bytes: &mut [u8],
     blocks: &mut [u16],
-) -> TraceAnswer
+) -> Result<usize, Refusal>
     requires blocks_len { length blocks.old ≡ u32_at request.now Places.trace_accesses }
     requires blocks_in_bounds { Places.lent_at + 2 * length blocks.old ≤ length bytes.old }
     ensures value { result ≡ (Frames.trace_asked request.now (drop Places.lent_at bytes.old)).answer }
     ensures bytes_after { drop (Places.lent_at + 2 * length blocks.old) bytes.new ≡ (Frames.trace_asked request.now (drop Places.lent_at bytes.old)).marks }
 {
     let marks = places::LENT_AT + 2 * blocks.len();
-    frames::numbers::read_blocks(&bytes[places::LENT_AT..], blocks);
+    frames::numbers::read_list(&bytes[places::LENT_AT..], blocks);
     bolgverk::trace_run(
         request[0],
         request[places::TRACE_WAYS],
@@ -35,10 +36,9 @@ fn framed(request: &[u8; places::ARGUMENTS_ROOM], bytes: &mut [u8], blocks: &mut
     requires blocks_in_bounds { Places.lent_at + 2 * length blocks.old ≤ length bytes.old }
     ensures { Frames.Answered (Frames.trace_frame (Frames.trace_asked request.now (drop Places.lent_at bytes.old))) result bytes.new }
 {
-    let at = places::TRACE_AT + 2 * blocks.len();
+    let marks = places::LENT_AT + 2 * blocks.len();
     let head = heads::trace(traced(request, bytes, blocks));
-    frames::front(bytes, at, 4, places::MISSES_WIDTH, head);
-    at
+    frames::front_before(bytes, marks, Operation::Trace, places::MISSES_WIDTH, head)
 }
 
 pub fn answer(request: &[u8; places::ARGUMENTS_ROOM], bytes: &mut [u8], blocks: &mut [u16]) -> usize

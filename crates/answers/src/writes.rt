@@ -4,8 +4,9 @@ ghost use Rattle.paper.specs.Files.{u32_at};
 ghost use Rattle.frames.specs.Frames as Frames;
 ghost use Rattle.frames.specs.Places as Places;
 
+use frames::operations::Operation;
 use frames::{heads, numbers, places};
-use paper::WriteAnswer;
+use paper::Refusal;
 
 // The lists, one after another from where the lent memory begins, and the place after them.
 fn read_lists(
@@ -22,11 +23,11 @@ fn read_lists(
     ensures rows_after { Frames.content_with request.now nodes.new edges.new loops.new heads.new rows.new ≡ Frames.content_asked request.now (drop Places.lent_at bytes.now) }
     ensures value { result ≡ Places.lent_at + Frames.bytes_from request.now }
 {
-    let after_nodes = numbers::read_blocks_at(bytes, places::LENT_AT, nodes);
-    let after_edges = numbers::read_blocks_at(bytes, after_nodes, edges);
-    let after_loops = numbers::read_longs_at(bytes, after_edges, loops);
-    let after_heads = numbers::read_blocks_at(bytes, after_loops, heads);
-    numbers::read_blocks_at(bytes, after_heads, rows)
+    let after_nodes = numbers::read_list_at(bytes, places::LENT_AT, nodes);
+    let after_edges = numbers::read_list_at(bytes, after_nodes, edges);
+    let after_loops = numbers::read_list_at(bytes, after_edges, loops);
+    let after_heads = numbers::read_list_at(bytes, after_loops, heads);
+    numbers::read_list_at(bytes, after_heads, rows)
 }
 
 // The arguments: version, policy, ways, sets, how many numbers each list has. The lent bytes stand from a place on.
@@ -39,7 +40,7 @@ fn written(
     loops: &[u32],
     heads: &[u16],
     rows: &[u16],
-) -> WriteAnswer
+) -> Result<usize, Refusal>
     requires { at ≤ length bytes.old }
     ensures value { result ≡ (Frames.wrote (Frames.content_with request.now nodes.now edges.now loops.now heads.now rows.now) (drop at bytes.old)).answer }
     ensures bytes_after { drop at bytes.new ≡ (Frames.wrote (Frames.content_with request.now nodes.now edges.now loops.now heads.now rows.now) (drop at bytes.old)).after }
@@ -73,10 +74,8 @@ fn framed(
     ensures { Frames.Answered (Frames.write_frame (Frames.write_asked request.now (drop Places.lent_at bytes.old))) result bytes.new }
 {
     let lent = read_lists(request, bytes, nodes, edges, loops, heads, rows);
-    let at = lent - places::HEAD_SIZE - places::LENGTH_WIDTH;
     let head = heads::write(written(request, bytes, lent, nodes, edges, loops, heads, rows));
-    frames::front(bytes, at, 6, places::LENGTH_WIDTH, head);
-    at
+    frames::front_before(bytes, lent, Operation::Write, places::LENGTH_WIDTH, head)
 }
 
 pub fn answer(

@@ -1,11 +1,10 @@
 -- Demands 1 and 2 give demand 3: whoever has the verdict and the lent list has the whole promise.
+use Rattle.std.specs.Prelude.{Ok}
 use Prim.Native.Nat.{ℕ}
 use mathlib.Core.Path.{◌≡◌, sym, ◌∙◌, ap, subst}
 use mathlib.Core.List.{List}
 use lib.ListN.{length, drop}
-use Rattle.paper.specs.declared.Verdict.{Verdict}
-use Rattle.paper.specs.declared.Verdict.TheVariants.{Accepted}
-use Rattle.paper.specs.Answers.{told_verdict}
+use Rattle.paper.specs.Answers.{Verdict, told_verdict}
 use Rattle.paper.specs.Files.{read_case}
 use Rattle.paper.specs.Verdicts.{verdict, lent_after}
 use Rattle.paper.specs.Demands.{Holds}
@@ -19,7 +18,7 @@ check_kept file p lent r after a n =
       told = ap told_verdict a;
       numbers = n;
       holds = λ e.
-          let z : after ≡ lent_after file p lent Accepted = n ∙ ap (lent_after file p lent) e in
+          let z : after ≡ lent_after file p lent (Ok tt) = n ∙ ap (lent_after file p lent) e in
           subst (Holds (read_case file) p) (sym z) (accepted_holds file (length lent) (sym a ∙ e) p (drop 321 lent));
       exact = file_exact file;
     }

@@ -15,19 +15,19 @@ use Rattle.paper.specs.Machines.{none}
 use Rattle.paper.specs.Cases.{Fact, Case, unlimited, inside, range_of}
 use Rattle.paper.specs.Graphs.{count, outer, at_most, entries_of, entries}
 use Rattle.paper.specs.Files.{loop_at, fact_at, case_of}
-use Rattle.paper.proofs.Meaning.{In, SoundGraph}
+use Rattle.paper.proofs.Meaning.{In}
 use Rattle.paper.proofs.Says.{says_true, says_false}
 use Rattle.paper.proofs.GraphLaws.{inside_says}
 use Rattle.paper.proofs.BoundLaws.{cond_low}
 use Rattle.paper.proofs.Nests.{Around, outer_next, outer_alone, outer_low}
 use Rattle.paper.specs.Ceilings.{most_count}
 use Rattle.charge.specs.NextOut.{next_out, Outers}
-use Rattle.charge.specs.ReadyFile.{Ready}
+use Rattle.charge.specs.ReadyFile.{Lawful, Ready}
 use Rattle.charge.specs.Tables.{head_of}
 use Rattle.charge.specs.declared.heads.Head.{Head}
 use Rattle.charge.proofs.Last.{last_low, last_is, last_none}
 
-module _ (e : Case) (g : SoundGraph e) (j : ℕ) (hj : j < e.loops) where
+module _ (e : Case) (g : Lawful e) (j : ℕ) (hj : j < e.loops) where
   fits : (i : ℕ) → i < e.loops → (e.loop i).first ≤ (e.loop i).last
   fits i h = (g.fits i h).0
 
@@ -75,7 +75,7 @@ module _ (e : Case) (g : SoundGraph e) (j : ℕ) (hj : j < e.loops) where
       cond_low (eqb (e.loop j).visits unlimited) low (omega arith)
 
 -- E of a fact whose scope is one of the loops or the whole graph
-pub entries_low : (e : Case) → SoundGraph e → (t : Fact) → (t.scope ≢ none → t.scope < e.loops) → entries e t ≤ most_count
+pub entries_low : (e : Case) → Lawful e → (t : Fact) → (t.scope ≢ none → t.scope < e.loops) → entries e t ≤ most_count
 unfolding entries
 entries_low e g t h =
     elim (ℕ_discrete t.scope none) [
@@ -87,14 +87,14 @@ entries_low e g t h =
 module _ (f : List ℕ) (trailer : Trailer) (counts outers : List ℕ) (r : Ready f trailer counts) (o : Outers (case_of f trailer) trailer.loops outers) (w : ℕ) (hw : w < trailer.loops) where
   pub outer_none : get_or outers w 0 ≡ 0 → 1 ≡ outer (case_of f trailer) (loop_at f trailer w)
   unfolding case_of
-  outer_none q = sym (next_none (case_of f trailer) r.sound.graph w hw (sym (o.at w hw) ∙ q))
+  outer_none q = sym (next_none (case_of f trailer) r.lawful w hw (sym (o.at w hw) ∙ q))
 
   module _ (some : get_or outers w 0 ≢ 0) where
     next_loop : (get_or outers w 0 - 1 < w) × (outer (case_of f trailer) (loop_at f trailer w) ≡ count (case_of f trailer) (loop_at f trailer (get_or outers w 0 - 1)).first)
     unfolding case_of
     next_loop =
         let z : get_or outers w 0 ≡ suc (get_or outers w 0 - 1) = omega arith in
-        next_count (case_of f trailer) r.sound.graph w hw (get_or outers w 0 - 1) (sym (o.at w hw) ∙ z)
+        next_count (case_of f trailer) r.lawful w hw (get_or outers w 0 - 1) (sym (o.at w hw) ∙ z)
 
     pub next_low : get_or outers w 0 - 1 < trailer.loops
     next_low = omega (arith, next_loop.0)
@@ -104,7 +104,7 @@ module _ (f : List ℕ) (trailer : Trailer) (counts outers : List ℕ) (r : Read
         → (l.first < trailer.nodes) × (get_or counts l.first 0 ≡ outer (case_of f trailer) (loop_at f trailer w))
     unfolding case_of
     next_header l el =
-        let s = r.sound.graph.fits (get_or outers w 0 - 1) next_low in
+        let s = r.lawful.fits (get_or outers w 0 - 1) next_low in
         let h : (loop_at f trailer (get_or outers w 0 - 1)).first < trailer.nodes = omega (arith, s.0, s.1) in
         rw el (h, r.counted.at (loop_at f trailer (get_or outers w 0 - 1)).first h ∙ sym next_loop.1)
 

@@ -30,7 +30,7 @@ scope_fits f trailer c w s r h e =
     rw e
     (elim (ℕ_discrete w none) [
       | yes q ↦ rw (eq-eqb w none q) (omega arith, omega (arith, r.laid.nodes_low))
-      | no q ↦ rw (ne_eqb w none q) ((r.sound.graph.fits w (h q)).0, (r.sound.graph.fits w (h q)).1)
+      | no q ↦ rw (ne_eqb w none q) ((r.lawful.fits w (h q)).0, (r.lawful.fits w (h q)).1)
     ])
 
 module _ (f : List ℕ) (trailer : Trailer) (p : ℕ) where

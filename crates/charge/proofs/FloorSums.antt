@@ -29,14 +29,14 @@ pub record Flooring (e : Case) (p q a m x j : ℕ) : Type 0 where
 module _ (f : List ℕ) (trailer : Trailer) (p : ℕ) (charged entered fetched spent : List ℕ) (s : Summed f trailer p charged entered fetched spent) (q : ℕ) (hq : q < Sizes.sets) where
   sum_A : get_or charged q 0 + get_or spent (place_of q Sizes.no_limit) 0 ≡ A (case_of f trailer) p q
   unfolding case_of
-  sum_A = A_is (case_of f trailer) (fact_head f trailer s.laid s.sound) s.laid.ways_high p q charged entered fetched spent s.facts s.nodes hq
+  sum_A = A_is (case_of f trailer) (fact_head f trailer s.laid s.lawful) s.laid.ways_high p q charged entered fetched spent s.facts s.nodes hq
 
   pub A_small : get_or charged q 0 + get_or spent (place_of q Sizes.no_limit) 0 ≤ largest_a
   A_small =
       omega (
         arith,
-        charged_small f trailer s.laid s.sound p charged entered s.facts q hq,
-        spent_small f trailer s.laid s.sound fetched spent s.nodes (place_of q Sizes.no_limit) (omega arith),
+        charged_small f trailer s.laid s.lawful p charged entered s.facts q hq,
+        spent_small f trailer s.laid s.lawful fetched spent s.nodes (place_of q Sizes.no_limit) (omega arith),
       )
 
   pub floor_set :
@@ -54,8 +54,8 @@ module _ (f : List ℕ) (trailer : Trailer) (p : ℕ) (charged entered fetched s
   flooring_start a =
       record {
         lowest = lowest_start (floor_at (case_of f trailer) p q) a trailer.ways;
-        sum = M_start (case_of f trailer) (fact_head f trailer s.laid s.sound) s.laid.ways_high p q charged entered fetched spent s.facts s.nodes hq;
-        small = omega (arith, fetched_small f trailer s.laid s.sound fetched spent s.nodes q hq);
+        sum = M_start (case_of f trailer) (fact_head f trailer s.laid s.lawful) s.laid.ways_high p q charged entered fetched spent s.facts s.nodes hq;
+        small = omega (arith, fetched_small f trailer s.laid s.lawful fetched spent s.nodes q hq);
       }
 
   module _ (a m x j : ℕ) (w : Flooring (case_of f trailer) p q a m x j) (h : j < trailer.ways) where
@@ -69,7 +69,7 @@ module _ (f : List ℕ) (trailer : Trailer) (p : ℕ) (charged entered fetched s
     unfolding case_of
     next_M =
         rw (add-one, w.sum)
-        (M_more (case_of f trailer) (fact_head f trailer s.laid s.sound) s.laid.ways_high p q charged entered fetched spent s.facts s.nodes hq j (omega (arith, s.laid.ways_high)))
+        (M_more (case_of f trailer) (fact_head f trailer s.laid s.lawful) s.laid.ways_high p q charged entered fetched spent s.facts s.nodes hq j (omega (arith, s.laid.ways_high)))
 
     -- nothing is taken that is not there
     pub out_fits : out ≤ m + in_E
@@ -80,7 +80,7 @@ module _ (f : List ℕ) (trailer : Trailer) (p : ℕ) (charged entered fetched s
         omega (
           arith,
           w.small,
-          entered_small f trailer s.laid s.sound p charged entered s.facts (place_of q (j + 1)) (omega (arith, s.laid.ways_high)),
+          entered_small f trailer s.laid s.lawful p charged entered s.facts (place_of q (j + 1)) (omega (arith, s.laid.ways_high)),
         )
 
     pub next_small : m + in_E - out ≤ largest_m

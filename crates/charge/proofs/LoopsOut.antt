@@ -1,19 +1,16 @@
--- The laws of the search for the next loop out, and of the loop that fills the table with it.
-use Prim.Native.Nat.{ℕ, ◌+◌, ◌-◌, ◌≤◌, ◌<◌}
+-- The laws of the search for the next loop out.
+use Prim.Native.Nat.{ℕ, ◌-◌, ◌≤◌, ◌<◌}
 use native.Mathlib.Omega.{arith}
 use native.Mathlib.Decide.{ℕ_discrete, dec_lt}
-use mathlib.Core.Path.{◌≡◌, sym, ◌∙◌}
+use mathlib.Core.Path.{◌≡◌, sym}
 use mathlib.Core.Bool.{false}
-use mathlib.Core.List.{List}
-use lib.ListN.{set, length-set, replicate, length-replicate}
-use lib.Seq.{get_or-set_same, get_or-set_other}
 use Rattle.paper.specs.declared.Loop.{Loop}
 use Rattle.paper.specs.Cases.{Case, inside}
-use Rattle.paper.proofs.Meaning.{In, SoundGraph}
+use Rattle.paper.proofs.Meaning.{In}
 use Rattle.paper.proofs.Says.{says_is, says_false}
 use Rattle.paper.proofs.GraphLaws.{inside_says}
-use Rattle.charge.specs.NextOut.{next_out, Outers}
-use Rattle.charge.specs.Sizes as Sizes
+use Rattle.charge.specs.NextOut.{next_out}
+use Rattle.charge.specs.ReadyFile.{Lawful}
 use Rattle.charge.proofs.Last.{last_low, last_none, last_absent, last_found}
 
 -- the search for loop j's is at c: the loops from c to j end before j's header
@@ -21,10 +18,7 @@ pub record Passing (e : Case) (j c : ℕ) : Type 0 where
   pub within : c ≤ j
   pub ended : (x : ℕ) → c ≤ x → x < j → (e.loop x).last < (e.loop j).first
 
-pub passing_start : (e : Case) (j : ℕ) → Passing e j j
-passing_start e j = record { within = omega arith; ended = λ x a b. absurd (omega arith) }
-
-module _ (e : Case) (g : SoundGraph e) (j : ℕ) (hj : j < e.loops) (c : ℕ) (w : Passing e j c) where
+module _ (e : Case) (g : Lawful e) (j : ℕ) (hj : j < e.loops) (c : ℕ) (w : Passing e j c) where
   not_in : (x : ℕ) → (e.loop x).last < (e.loop j).first → inside (e.loop x) (e.loop j).first ≡ false
   not_in x h = (says_false (inside_says _ _)).1 (λ (k : In (e.loop x) (e.loop j).first). omega (arith, k.1))
 
@@ -70,19 +64,3 @@ module _ (e : Case) (g : SoundGraph e) (j : ℕ) (hj : j < e.loops) (c : ℕ) (w
             → (e.loop x).last < (e.loop j).first
         between x p q n =
             elim (dec_lt (e.loop x).last (e.loop j).first) [ yes z ↦ z | no z ↦ absurd (n (omega arith, omega arith)) ]
-
--- no loop is in the table, and one more
-pub outers_start : (e : Case) → Outers e 0 (replicate Sizes.loops 0)
-outers_start e = record { room = omega (arith, length-replicate {A = ℕ} Sizes.loops 0); at = λ j h. absurd (omega arith) }
-
-pub outers_more : (e : Case) (n x : ℕ) (outers : List ℕ) → n < Sizes.loops → Outers e n outers → x ≡ next_out e n → Outers e (n + 1) (set outers n x)
-outers_more e n x outers hn w ex =
-    record {
-      room = omega (arith, w.room, length-set outers n x);
-      at =
-          λ j h.
-          elim (ℕ_discrete j n) [
-            | yes q ↦ rw q (get_or-set_same outers n x 0 (omega (arith, w.room)) ∙ ex)
-            | no q ↦ get_or-set_other outers n j x 0 q ∙ w.at j (omega arith)
-          ];
-    }

@@ -11,17 +11,18 @@ use Rattle.paper.specs.Machines.{none}
 use Rattle.paper.specs.Graphs.{count}
 use Rattle.paper.specs.Bounds.{covers, counts, entered, fact_bound}
 use Rattle.paper.specs.Files.{node_at, case_of}
-use Rattle.paper.proofs.Meaning.{SoundHead, Sound}
+use Rattle.paper.proofs.Meaning.{SoundHead}
 use Rattle.paper.proofs.BoundLaws.{cond_low, bound_low}
 use Rattle.paper.specs.Known.{Laid}
 use Rattle.paper.specs.Ceilings.{most_count}
 use Rattle.formulas.specs.Largest.{largest_visits, largest_bound, largest_entered, largest_charged}
+use Rattle.charge.specs.ReadyFile.{Lawful}
 use Rattle.charge.specs.Sizes as Sizes
 use Rattle.charge.specs.Tables.{weight, FactsAdded, NodesAdded}
 use Rattle.charge.proofs.SmallSums.{sum_low}
 use Rattle.charge.proofs.Tallies.{sets_low, limits_low}
 
-module _ (f : List ℕ) (trailer : Trailer) (laid : Laid f trailer) (sound : Sound (case_of f trailer)) where
+module _ (f : List ℕ) (trailer : Trailer) (laid : Laid f trailer) (lawful : Lawful (case_of f trailer)) where
   -- "block b lives in set b mod S"
   pub set_low : (b : ℕ) → b % trailer.sets < Sizes.sets
   set_low b = let h : 0 < trailer.sets = omega (arith, laid.sets_low) in omega (arith, mod-lt b h, laid.sets_high)
@@ -29,7 +30,7 @@ module _ (f : List ℕ) (trailer : Trailer) (laid : Laid f trailer) (sound : Sou
   module _ (i : ℕ) (h : i < trailer.facts) where
     pub fact_head : SoundHead (case_of f trailer) ((case_of f trailer).fact i)
     unfolding case_of
-    fact_head = (sound.facts i h).head
+    fact_head = lawful.heads i h
 
     -- N
     covered_low : counts (case_of f trailer) (covers (case_of f trailer) ((case_of f trailer).fact i)) ≤ largest_visits
@@ -38,7 +39,7 @@ module _ (f : List ℕ) (trailer : Trailer) (laid : Laid f trailer) (sound : Sou
         omega (
           arith,
           sum_low (λ v. cond (covers (case_of f trailer) ((case_of f trailer).fact i) v) (count (case_of f trailer) v) 0) most_count trailer.nodes
-              (λ v q. cond_low (covers (case_of f trailer) ((case_of f trailer).fact i) v) (sound.graph.counts v q) (omega arith)),
+              (λ v q. cond_low (covers (case_of f trailer) ((case_of f trailer).fact i) v) (lawful.counts v q) (omega arith)),
           laid.nodes_high,
         )
 
@@ -59,7 +60,7 @@ module _ (f : List ℕ) (trailer : Trailer) (laid : Laid f trailer) (sound : Sou
 
   pub weight_small : (v : ℕ) → v < trailer.nodes → weight (case_of f trailer) v ≤ most_count
   unfolding weight case_of
-  weight_small v h = cond_low (not (eqb (node_at f v) none)) (sound.graph.counts v h) (omega arith)
+  weight_small v h = cond_low (not (eqb (node_at f v) none)) (lawful.counts v h) (omega arith)
 
   module _ (p : ℕ) (charged entries : List ℕ) (w : FactsAdded (case_of f trailer) p trailer.facts charged entries) where
     pub charged_small : (j : ℕ) → j < Sizes.sets → get_or charged j 0 ≤ largest_charged

@@ -1,8 +1,8 @@
--- The laws of sums that the charge needs besides those of a loop that adds, and of a loop's end.
+-- The laws of sums that the charge needs besides those of a loop that adds.
 use Prim.Native.Nat.{ℕ, zero, suc, ◌+◌, ◌-◌, ◌*◌, ◌≤◌, ◌<◌}
 use native.Mathlib.Omega.{arith}
 use native.Mathlib.Nat.{mul-suc}
-use mathlib.Core.Path.{◌≡◌, refl, sym, ◌∙◌, ap, ap₂, subst}
+use mathlib.Core.Path.{◌≡◌, refl, sym, ◌∙◌, ap, ap₂}
 use Rattle.paper.specs.Lists.{sum_to}
 
 pub sum_same : (F G : ℕ → ℕ) (n : ℕ) → ((j : ℕ) → j < n → F j ≡ G j) → sum_to F n ≡ sum_to G n
@@ -20,10 +20,6 @@ pub sum_low : (F : ℕ → ℕ) (b n : ℕ) → ((j : ℕ) → j < n → F j ≤
 unfolding sum_to
 sum_low F b zero h = omega arith
 sum_low F b (suc n) h = rw mul-suc (omega (arith, sum_low F b n (λ j l. h j (omega arith)), h n (omega arith)))
-
--- a loop that counts to n ends at n
-pub at_end : (P : ℕ → Type 0) (i n : ℕ) → i ≤ n → n ≤ i → P i → P n
-at_end P i n l h p = let z : i ≡ n = omega arith in subst P z p
 
 -- a sum whose first or last parts are 0 may leave them out
 module _ (F : ℕ → ℕ) where

@@ -1,5 +1,5 @@
 -- The laws of the loop that adds the nodes.
-use Prim.Native.Nat.{ℕ, ◌+◌, ◌%◌, ◌≤◌, ◌<◌}
+use Prim.Native.Nat.{ℕ, ◌+◌, ◌%◌, ◌<◌}
 use native.Mathlib.Omega.{arith}
 use mathlib.Core.Path.{◌≡◌}
 use mathlib.Core.Bool.{cond, not}
@@ -14,18 +14,13 @@ use Rattle.charge.specs.Chained.{Covered}
 use Rattle.charge.specs.Tables.{plus, place_of, Open, weight, NodesAdded}
 use Rattle.charge.proofs.Cover.{lowest_high}
 use Rattle.charge.proofs.Small.{set_low, weight_small}
-use Rattle.charge.proofs.SmallSums.{at_end}
 use Rattle.charge.proofs.Tallies.{grouped_more, grouped_open}
 
 -- a loop over the nodes is at node v
 pub record Walking (f : List ℕ) (trailer : Trailer) (v : ℕ) (fetched spent : List ℕ) : Type 0 where
-  pub within : v ≤ trailer.nodes
   pub added : NodesAdded (case_of f trailer) v fetched spent
 
 module _ (f : List ℕ) (trailer : Trailer) (v : ℕ) (fetched spent : List ℕ) (w : Walking f trailer v fetched spent) where
-  pub walking_end : trailer.nodes ≤ v → NodesAdded (case_of f trailer) trailer.nodes fetched spent
-  walking_end h = at_end (λ n. NodesAdded (case_of f trailer) n fetched spent) v trailer.nodes w.within h w.added
-
   module _ (c cover : List ℕ) (r : Ready f trailer c) (k : Covered (case_of f trailer) trailer.facts cover) (h : v < trailer.nodes) (b x : ℕ) (eb : b ≡ node_at f v) (ex : x ≡ cond (not (eqb b none)) (get_or c v 0) 0) where
     amount : x ≡ weight (case_of f trailer) v
     unfolding case_of weight
@@ -35,8 +30,8 @@ module _ (f : List ℕ) (trailer : Trailer) (v : ℕ) (fetched spent : List ℕ)
     unfolding case_of
     walking_open =
         rw (eb, amount, k.lowest v h)
-        (grouped_open _ _ _ _ v fetched spent w.added (set_low f trailer r.laid r.sound _) (omega (arith, lowest_high (case_of f trailer) trailer.facts v)) (omega (arith, r.laid.nodes_high))
-        (λ j q. let s = weight_small f trailer r.laid r.sound j (omega arith) in (omega (arith, s), omega (arith, s))))
+        (grouped_open _ _ _ _ v fetched spent w.added (set_low f trailer r.laid r.lawful _) (omega (arith, lowest_high (case_of f trailer) trailer.facts v)) (omega (arith, r.laid.nodes_high))
+        (λ j q. let s = weight_small f trailer r.laid r.lawful j (omega arith) in (omega (arith, s), omega (arith, s))))
 
     pub walking_more :
         (fetched' spent' : List ℕ) → fetched' ≡ plus fetched (b % trailer.sets) x → spent' ≡ plus spent (place_of (b % trailer.sets) (get_or cover v 0)) x
@@ -45,6 +40,5 @@ module _ (f : List ℕ) (trailer : Trailer) (v : ℕ) (fetched spent : List ℕ)
     walking_more fetched' spent' ef es =
         rw (ef, es, eb, amount, k.lowest v h)
         (record {
-          within = omega arith;
-          added = grouped_more _ _ _ _ v fetched spent w.added (set_low f trailer r.laid r.sound _) (omega (arith, lowest_high (case_of f trailer) trailer.facts v));
+          added = grouped_more _ _ _ _ v fetched spent w.added (set_low f trailer r.laid r.lawful _) (omega (arith, lowest_high (case_of f trailer) trailer.facts v));
         })

@@ -5,7 +5,7 @@ ghost use Rattle.std.specs.Prelude.{◌≡◌};
 ghost use Rattle.paper.specs.Known.{Laid};
 ghost use Rattle.clock.specs.Timed.{time_for};
 
-use paper::{LIST_LENGTH, MOST_NODES, TimeAnswer, Trailer, Verdict};
+use paper::{LIST_LENGTH, MOST_NODES, Refusal, Trailer};
 
 // For a file that passes rules 1 to 5; the tables are overwritten. The total is the first of the check's numbers.
 pub fn time_on(
@@ -16,13 +16,10 @@ pub fn time_on(
     interruptions: u16,
     numbers: &mut [u64; LIST_LENGTH],
     table: &mut [u32; MOST_NODES],
-) -> TimeAnswer
+) -> Result<u64, Refusal>
     requires { Laid file.now trailer }
     ensures { result ≡ time_for file.now trailer costs.now penalty interruptions }
 {
-    let verdict = ruling::rule_on(file, trailer, interruptions, numbers);
-    if let Verdict::Refused(r) = verdict {
-        return TimeAnswer::Refused(r);
-    }
+    ruling::rule_on(file, trailer, interruptions, numbers)?;
     timing::timed(file, trailer, costs, penalty, numbers[0], table)
 }

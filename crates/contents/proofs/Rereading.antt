@@ -1,4 +1,5 @@
 -- What the writer writes passes the layout rules and reads back as the same lists.
+use Rattle.std.specs.Prelude.{Ok}
 use Prim.Native.Nat.{ℕ, zero, suc, ◌+◌, ◌*◌, ◌≤◌, ◌<◌}
 use native.Mathlib.Omega.{arith}
 use native.Mathlib.Decide.{ℕ_discrete}
@@ -8,7 +9,6 @@ use mathlib.Core.List.{List, [], ◌∷◌}
 use lib.ListN.{length, get_or, take, length-append}
 use borrow.Author.Tests.{eq-eqb, ne_eqb, eqb-true, not-false}
 use Rattle.paper.specs.declared.Trailer.{Trailer}
-use Rattle.paper.specs.declared.Verdict.TheVariants.{Accepted}
 use Rattle.paper.specs.Lists.{each, spaced, part}
 use Rattle.paper.specs.Machines.{none}
 use Rattle.paper.specs.Cases.{size, range_of, scope_of}
@@ -179,7 +179,7 @@ module _ (c : FileContent) where
             full = omega (arith, (file_length c w), places t.facts (omega arith));
           }
 
-module _ (c : FileContent) (room : ℕ) (h : write_verdict c room ≡ Accepted) where
+module _ (c : FileContent) (room : ℕ) (h : write_verdict c room ≡ Ok tt) where
   writable : Writable c
   writable = (write_writable c room h).0
 
@@ -190,7 +190,7 @@ module _ (c : FileContent) (room : ℕ) (h : write_verdict c room ≡ Accepted) 
   trailer_back = trailer_read_lem (file_of c) (trailer_in c) (trailer_part c whole)
 
   -- "What it writes passes them and reads back as the same lists"
-  pub written_passes : layout_verdict (file_of c) ≡ Accepted
+  pub written_passes : layout_verdict (file_of c) ≡ Ok tt
   written_passes = laid_layout (file_of c) (subst (LaidFile (file_of c)) (sym trailer_back) (file_laid c whole writable))
 
   pub written_reads : content_of (file_of c) ≡ c

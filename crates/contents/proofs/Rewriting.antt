@@ -1,4 +1,5 @@
 -- Any file that passes the layout rules comes out again byte for byte when its content is written.
+use Rattle.std.specs.Prelude.{Ok}
 use Prim.Native.Nat.{ℕ, zero, suc, ◌+◌, ◌*◌, ◌≤◌, ◌<◌}
 use native.Mathlib.Omega.{arith}
 use mathlib.Core.Path.{◌≡◌, refl, sym, ◌∙◌, ap, subst}
@@ -8,7 +9,6 @@ use lib.ListN.{length, get_or, length-append}
 use lib.Seq.{ext_get_or}
 use borrow.Author.Tests.{eq-eqb}
 use Rattle.paper.specs.declared.Trailer.{Trailer}
-use Rattle.paper.specs.declared.Verdict.TheVariants.{Accepted}
 use Rattle.paper.specs.Lists.{each, spaced}
 use Rattle.paper.specs.Demands.{Bytes}
 use Rattle.paper.specs.Cases.{size, scope_of}
@@ -168,7 +168,7 @@ module _ (f : List ℕ) (t : Trailer) where
               record { head = s.head; order = s.order; whole = named_whole i m (size_same _ _ _ back (λ j. false) kept (λ j q. refl) i m); rows = s.rows };
         }
 
-module _ (f : List ℕ) (b : Bytes f) (h : layout_verdict f ≡ Accepted) where
+module _ (f : List ℕ) (b : Bytes f) (h : layout_verdict f ≡ Ok tt) where
   -- "any file that passes them comes out again byte for byte when its content is written, so one content has one file"
   pub written_again : file_of (content_of f) ≡ f
   written_again =
@@ -178,10 +178,10 @@ module _ (f : List ℕ) (b : Bytes f) (h : layout_verdict f ≡ Accepted) where
       file_again f (trailer_of f) ∙ stands_whole f _ s (sections_length f (trailer_of f) ∙ omega (arith, e, k.layout.long))
 
   -- and the writer takes it
-  pub written_taken : (room : ℕ) → length f ≤ room → write_verdict (content_of f) room ≡ Accepted
+  pub written_taken : (room : ℕ) → length f ≤ room → write_verdict (content_of f) room ≡ Ok tt
   written_taken room l =
       writable_write (content_of f) room (content_writable f (trailer_of f) (layout_laid f h)) (omega (arith, ap length written_again))
 
 -- "so one content has one file"
-pub one_file : (f g : List ℕ) → Bytes f → Bytes g → layout_verdict f ≡ Accepted → layout_verdict g ≡ Accepted → content_of f ≡ content_of g → f ≡ g
+pub one_file : (f g : List ℕ) → Bytes f → Bytes g → layout_verdict f ≡ Ok tt → layout_verdict g ≡ Ok tt → content_of f ≡ content_of g → f ≡ g
 one_file f g a b h k e = sym (written_again f a h) ∙ ap file_of e ∙ written_again g b k

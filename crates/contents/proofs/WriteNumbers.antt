@@ -1,12 +1,12 @@
 -- The paper's file as a content: it is written as the paper's bytes and read back, and so is one with W; and each of the writer's refusals once, with its place. By computation.
+use Rattle.std.specs.Prelude.{Ok, Err}
 use Prim.Native.Nat.{ℕ}
 use mathlib.Core.Path.{◌≡◌, refl}
 use mathlib.Core.Bool.{Bool, true, ◌&&◌}
 use mathlib.Core.List.{List, [], ◌∷◌, ◌++◌}
 use lib.Dec.{eqb}
 use lib.ListN.{replicate}
-use Rattle.paper.specs.declared.Verdict.{Verdict}
-use Rattle.paper.specs.declared.Verdict.TheVariants.{Accepted, Refused}
+use Rattle.paper.specs.Answers.{Verdict}
 use Rattle.paper.specs.Lists.{least_from, least, some, sum_to, each, spaced}
 use Rattle.paper.specs.Machines.{none, offered, set_count, in_range}
 use Rattle.paper.specs.Cases.{range_of, same_set}
@@ -80,8 +80,8 @@ abbrev Answered : Type 0
 Answered = FileContent × ℕ × ℕ × ℕ × ℕ
 
 abbrev same_answer : Verdict → ℕ → ℕ → ℕ → Bool
-same_answer Accepted number place second = eqb number 0 && (eqb place 0 && eqb second 0)
-same_answer (Refused r) number place second = eqb r.number number && (eqb r.place place && eqb r.second second)
+same_answer (Ok tt) number place second = eqb number 0 && (eqb place 0 && eqb second 0)
+same_answer (Err r) number place second = eqb r.number number && (eqb r.place place && eqb r.second second)
 
 abbrev all_answer : List Answered → Bool
 all_answer [] = true
@@ -124,6 +124,6 @@ unfolding least_from least some sum_to each spaced offered set_count in_range ra
 answers_hold = refl
 
 -- the paper's file passes the layout rules
-paper_laid : layout_verdict (paper_file 1) ≡ Accepted
+paper_laid : layout_verdict (paper_file 1) ≡ Ok tt
 unfolding least_from least some sum_to each spaced offered set_count in_range range_of same_set rises_from crosses wrong_edge wrong_loop bad_edge bad_loop held wrong_head bad_head wrong_order bad_order bad_slot bad_row bad_row_at least_node bad_version loop_fields loop_size visits_by u16_at u32_at trailer_of bad_letter bad_letters bad_cache bad_numbers bad_offsets node_at from_at to_at loop_at fact_end fact_place case_of layout_rules shape_rules head_rule order_rule row_rules content_rules in_turn laid_turn laid_facts
 paper_laid = refl

@@ -1,4 +1,5 @@
 -- What is printed, by what the operation answers, and that 65,537 bytes of the input are enough to read.
+use Rattle.std.specs.Prelude.{Result, Ok, Err}
 use Prim.Native.Nat.{ℕ, ◌+◌, ◌-◌, ◌*◌, ◌^◌, ◌≤◌, ◌<◌}
 use native.Mathlib.Omega.{arith}
 use native.Mathlib.Decide.{dec_le}
@@ -11,8 +12,6 @@ use lib.ListN.{length, take, drop}
 use lib.Seq.{take_all, length-take-le}
 use borrow.Author.Tests.{lt-leb, le-leb}
 use Rattle.paper.specs.declared.Refusal.{Refusal}
-use Rattle.paper.specs.declared.TimeAnswer.{TimeAnswer}
-use Rattle.paper.specs.declared.TimeAnswer.TheVariants.{Time, Refused}
 use Rattle.paper.specs.Answers.{refuse}
 use Rattle.paper.specs.Ceilings.{longest_input}
 use Rattle.paper.specs.Files.{u16_at, u32_at}
@@ -36,11 +35,11 @@ whole_is input h = says_true (says_and (says_le 8 (length input)) (says_and (say
 pub time_fits : (l : List ℕ) (n : ℕ) → n < 2 ^ 64 → 71 ≤ length l → Fits l 0 (line (bytes "time ") n)
 time_fits l n h r = record { room = omega (arith, line_length (bytes "time ") n, short n h) }
 
-module _ (file costs : List ℕ) (penalty p : ℕ) {a : TimeAnswer} (k : TimePromise file costs penalty p a) where
-  pub refused_as : (r : Refusal) → a ≡ Refused r → refusal_line r ≡ time_line (file_time_answer file costs penalty p)
+module _ (file costs : List ℕ) (penalty p : ℕ) {a : (Result ℕ Refusal)} (k : TimePromise file costs penalty p a) where
+  pub refused_as : (r : Refusal) → a ≡ Err r → refusal_line r ≡ time_line (file_time_answer file costs penalty p)
   refused_as r e = ap time_line (sym e ∙ time_answer_lem file costs penalty p a k)
 
-  pub told_as : (n : ℕ) → a ≡ Time n → line (bytes "time ") n ≡ time_line (file_time_answer file costs penalty p)
+  pub told_as : (n : ℕ) → a ≡ Ok n → line (bytes "time ") n ≡ time_line (file_time_answer file costs penalty p)
   told_as n e = ap time_line (sym e ∙ time_answer_lem file costs penalty p a k)
 
 -- what is read of an input that is whole

@@ -2,13 +2,14 @@
 #![tactic(auto)]
 
 ghost use Rattle.std.specs.Prelude.{◌≡◌, true, ◌+◌, ◌*◌, ◌≤◌, length};
-ghost use Rattle.paper.specs.Listings.{bytes, line, refusal_line};
+ghost use Rattle.paper.specs.Listings.{bytes, line};
 ghost use Rattle.paper.specs.Times.{file_time_answer};
 ghost use Rattle.listing.specs.Listed.{Printed};
 ghost use Rattle.cyclelines.specs.CycleLines as CycleLines;
 
 use frames::numbers;
-use paper::{LONGEST_INPUT, Refusal, TimeAnswer};
+use listing::refused;
+use paper::LONGEST_INPUT;
 
 // More costs than fit into an input of 65,536 bytes.
 const COSTS: usize = 16384;
@@ -35,13 +36,6 @@ fn told(out: &mut [u8; LONGEST], cycles: u64) -> usize
     print::line(out, 0, b"time ", cycles)
 }
 
-// "A refusal prints `refused`, number, place." "A printed refusal ends with the second place."
-fn refused(out: &mut [u8; LONGEST], why: Refusal) -> usize
-    ensures { Printed (refusal_line why) out.old result out.new }
-{
-    print::refusal(out, 0, why)
-}
-
 // "Only the time is returned."
 fn answered(
     file: &[u8],
@@ -53,8 +47,8 @@ fn answered(
     ensures { Printed (CycleLines.time_line (file_time_answer file.now costs.now penalty interruptions)) out.old result out.new }
 {
     match bolgverk::time(file, costs, penalty, interruptions) {
-        TimeAnswer::Refused(why) => refused(out, why),
-        TimeAnswer::Time(cycles) => told(out, cycles),
+        Err(why) => refused(out, why),
+        Ok(cycles) => told(out, cycles),
     }
 }
 
@@ -66,7 +60,7 @@ fn timed(input: &[u8], costs: &mut [u32], out: &mut [u8; LONGEST]) -> usize
 {
     let penalty = layout::u32_at(input, 0);
     let interruptions = layout::u16_at(input, 4);
-    let from = numbers::read_longs_at(input, 8, costs);
+    let from = numbers::read_list_at(input, 8, costs);
     answered(&input[from..], costs, penalty, interruptions, out)
 }
 

@@ -1,3 +1,4 @@
+pub mod Asks
 pub mod Scopes
 pub mod Slots
 pub mod Sets

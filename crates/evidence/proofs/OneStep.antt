@@ -12,9 +12,9 @@ use Rattle.paper.specs.declared.Trailer.{Trailer}
 use Rattle.paper.specs.Cases.{scope_of}
 use Rattle.paper.specs.Files.{node_at, from_at, to_at, row_place, row_at, case_of}
 use Rattle.paper.specs.Known.{Shaped}
-use Rattle.paper.specs.Lists.{least}
+use Rattle.std.proofs.Common.{None}
 use Rattle.paper.specs.Facts.{bad_step_at, step_number}
-use Rattle.paper.proofs.Least.{Passed, passed_more, least_none}
+use Rattle.paper.proofs.Least.{Passed, passed_more}
 use Rattle.paper.proofs.RowLaws.{breaks_says, broken_by_lem}
 use Rattle.paper.proofs.Says.{neither, says_lt, says_or, says_false, says_true, says_is}
 use Rattle.paper.proofs.Meaning.{In}
@@ -23,6 +23,8 @@ use Rattle.paper.proofs.TestLaws.{step_says}
 use Rattle.evidence.specs.declared.Head.{Head}
 use Rattle.evidence.specs.Stands.{Stands, fact_of}
 use Rattle.evidence.specs.Edges.{Splits, From}
+use Rattle.layout.specs.Firsts.{first}
+use Rattle.layout.proofs.FirstLaws.{first_end}
 use Rattle.evidence.specs.RowParts.{breaks_at}
 use Rattle.paper.proofs.Climbs.{climbs}
 
@@ -102,13 +104,16 @@ module _ (f : List ℕ) (trailer : Trailer) (h : Head) (s : Stands f trailer h) 
         record { passed = passed_more _ _ _ b w.passed l e z; above = λ k q. w.above k (omega arith) }
 
     -- the edges from here on come from nodes after the scope
-    pub reached_after : Shaped (case_of f trailer) → (u : ℕ) → u ≡ from_at f trailer i → h.last < u → trailer.edges ≡ least (bad_step_at (case_of f trailer) (fact_of f h)) trailer.edges
+    pub reached_after : Shaped (case_of f trailer) → (u : ℕ) → u ≡ from_at f trailer i → h.last < u → None ≡ first (bad_step_at (case_of f trailer) (fact_of f h)) trailer.edges
     unfolding case_of
     reached_after o u e q =
-        sym
-        (least_none (bad_step_at (case_of f trailer) (fact_of f h)) trailer.edges
-        (λ k z.
-        elim (dec_le i k) [
-          | yes y ↦ step_after f trailer h s k (omega (arith, climbs (from_at f trailer) trailer.edges o.climbs i k y z))
-          | no y ↦ w.passed.none k (omega arith)
-        ]))
+        first_end (bad_step_at (case_of f trailer) (fact_of f h)) trailer.edges trailer.edges
+        (record {
+          within = omega arith;
+          none = λ k z.
+              elim (dec_le i k) [
+                | yes y ↦ step_after f trailer h s k (omega (arith, climbs (from_at f trailer) trailer.edges o.climbs i k y z))
+                | no y ↦ w.passed.none k (omega arith)
+              ];
+        })
+        (omega arith)

@@ -8,8 +8,8 @@ use mathlib.Core.Bool.{Bool, true, false, not}
 use mathlib.Core.Logic.{◌≢◌}
 use mathlib.Core.List.{List}
 use borrow.Author.Count.{below_more}
-use borrow.Author.Tests.{eq-eqb, ne_eqb, not-true, not-false}
-use lib.Dec.{eqb}
+use borrow.Author.Tests.{eq-eqb, ne_eqb, not-true, not-false, lt-ltb, le-ltb}
+use lib.Dec.{eqb, ltb}
 use Rattle.paper.specs.Lists.{some}
 use Rattle.paper.specs.declared.Trailer.{Trailer}
 use Rattle.paper.specs.Machines.{none}
@@ -112,3 +112,11 @@ module _ (r s : Row) (n m : ℕ) where
             within = omega arith;
             below = λ k z o. let v : r.slot i < r.slot (i + 1) = rw (add-one i) (u i (omega arith)) in omega (arith, low k z);
           }
+
+-- where s is passed over, r has a block left exactly if s lacks one
+pub merged_last : (r s : Row) (n m i j : ℕ) → held s ≡ m → Merged r s n m i j → m ≤ j → ltb i n ≡ some (missing r s) n
+merged_last r s n m i j e w l =
+    elim (dec_le n i) [
+      | yes z ↦ le-ltb i n z ∙ merged_end r s n m i j w z
+      | no z ↦ let q : i < n = omega arith in lt-ltb i n q ∙ merged_out r s n m e i j w q l
+    ]

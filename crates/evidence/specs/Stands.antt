@@ -3,7 +3,6 @@ use Rattle.std.specs.Prelude.{ℕ, suc, ◌-◌, ◌%◌, ◌≤◌, ◌<◌, �
 use Rattle.paper.specs.declared.Trailer.{Trailer}
 use Rattle.paper.specs.declared.Loop.{Loop}
 use Rattle.paper.specs.declared.Sets.{Sets}
-use Rattle.paper.specs.Shifts.{sets_of}
 use Rattle.paper.specs.Cases.{Fact, range_of}
 use Rattle.paper.specs.Files.{end_at, row_place, loop_at, fact_at, case_of}
 use Rattle.paper.specs.Facts.{bad_row_at}
@@ -31,11 +30,8 @@ pub record Stands (f : List ℕ) (trailer : Trailer) (h : Head) : Type 0 where
   pub rises : h.first ≤ h.last
   pub within : h.last < trailer.nodes
 
--- The trailer's number of sets, made ready for whoever asks often where a block lives.
+-- The number of sets is the trailer's.
 pub record Ready (trailer : Trailer) (sets : Sets) : Type 0 where
-  pub some : 0 < sets.count
-  pub few : sets.count ≤ 64
-  pub made : sets ≡ sets_of sets.count
   pub count : sets.count ≡ trailer.sets
 
 -- Rule 15 is passed: its rows end before the trailer.

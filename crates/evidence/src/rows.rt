@@ -1,15 +1,16 @@
 // Rule 16: the rows of a fact, where they stand and what they may be.
 ghost use Rattle.std.specs.Prelude.{◌≡◌, not, ◌+◌, ◌%◌, ◌<◌, ◌≤◌, eqb, length};
-ghost use Rattle.paper.specs.Lists.{least, some};
+ghost use Rattle.paper.specs.Lists.{some};
 ghost use Rattle.paper.specs.Files as Files;
 ghost use Rattle.paper.specs.Facts as Facts;
 ghost use Rattle.paper.specs.Records.{row_size};
 ghost use Rattle.paper.specs.Known.{Laid};
+ghost use Rattle.layout.specs.Firsts.{first};
 ghost use Rattle.evidence.specs.Stands.{fact_of, nodes_of, Stands, Ready, Whole};
 ghost use Rattle.evidence.specs.RowParts.{SetAt, unfree};
 
-use crate::{Head, nodes_of};
-use paper::{Sets, Trailer};
+use crate::Head;
+use paper::{MANY, Sets, Trailer, UNFETCHED};
 
 // Where the row of the scope's node j stands.
 pub fn row_at(file: &[u8], h: Head, j: u16) -> usize
@@ -26,7 +27,7 @@ pub fn elsewhere(trailer: Trailer, sets: Sets, h: Head, x: u16) -> bool
     requires { Ready trailer sets }
     ensures { result ≡ not (eqb (x % trailer.sets) h.home) }
 {
-    paper::home_in(x, sets) != h.home as usize
+    sets.home(x) != h.home as usize
 }
 
 // "strictly rising, each of b's set, none equal to b or none": one of the n blocks of the row at `at` is not so.
@@ -37,14 +38,12 @@ fn bad_blocks(file: &[u8], trailer: Trailer, sets: Sets, h: Head, at: usize, n: 
     ensures { result ≡ some (Facts.bad_slot (Files.case_of file.now trailer) (fact_of file.now h) (Files.row_at file.now at)) n }
 {
     let mut low: u16 = 0;
-    let mut i: u16 = 0;
-    while i < n {
+    for i in 0..n {
         let x = layout::slot_at(file, at, i);
         if (x == 65535) | ((x == h.block) | (elsewhere(trailer, sets, h, x) | (x < low))) {
             return true;
         }
         low = x + 1;
-        i += 1;
     }
     false
 }
@@ -55,14 +54,7 @@ fn bad_rest(file: &[u8], at: usize, n: u16) -> bool
     requires n_bound { n < 8 }
     ensures { result ≡ some (unfree n (Files.row_at file.now at)) 7 }
 {
-    let mut i: u16 = n;
-    while i < 7 {
-        if layout::slot_at(file, at, i) != 65535 {
-            return true;
-        }
-        i += 1;
-    }
-    false
+    (n..7).any(|i| layout::slot_at(file, at, i) != 65535)
 }
 
 fn bad_row(file: &[u8], trailer: Trailer, sets: Sets, h: Head, j: u16) -> bool
@@ -74,10 +66,10 @@ fn bad_row(file: &[u8], trailer: Trailer, sets: Sets, h: Head, j: u16) -> bool
 {
     let at = row_at(file, h, j);
     let n = layout::number_at(file, at);
-    if 9 < n {
+    if UNFETCHED < n {
         return true;
     }
-    if 8 <= n {
+    if MANY <= n {
         return bad_rest(file, at, 0);
     }
     if h.limit <= n {
@@ -89,21 +81,13 @@ fn bad_row(file: &[u8], trailer: Trailer, sets: Sets, h: Head, j: u16) -> bool
     bad_rest(file, at, n)
 }
 
-// 16: "a row not sound": the least such node of the scope, and the number of its nodes where there is none.
-pub fn bad_rows(file: &[u8], trailer: Trailer, h: Head) -> u16
+// 16: "a row not sound": the least such node of the scope.
+pub fn bad_rows(file: &[u8], trailer: Trailer, h: Head) -> Option<u16>
     requires laid { Laid file.now trailer }
     requires stands { Stands file.now trailer h }
     requires whole { Whole file.now h }
-    ensures { result ≡ least (Facts.bad_row_at (Files.case_of file.now trailer) (fact_of file.now h)) (nodes_of h) }
+    ensures { result ≡ first (Facts.bad_row_at (Files.case_of file.now trailer) (fact_of file.now h)) (nodes_of h) }
 {
-    let sets = paper::sets_of(trailer.sets);
-    let n = nodes_of(h);
-    let mut j: u16 = 0;
-    while j < n {
-        if bad_row(file, trailer, sets, h, j) {
-            return j;
-        }
-        j += 1;
-    }
-    j
+    let sets = Sets::of(trailer.sets);
+    (0..h.nodes()).find(|j| bad_row(file, trailer, sets, h, *j))
 }

@@ -1,30 +1,24 @@
 // Rules 17, 24 and 25: the rows at the ends of the edges inside a scope.
 ghost use Rattle.std.specs.Prelude.{◌≡◌, ◌<◌};
-ghost use Rattle.paper.specs.Lists.{least, some};
+ghost use Rattle.paper.specs.Lists.{some};
 ghost use Rattle.paper.specs.Files as Files;
 ghost use Rattle.paper.specs.Facts as Facts;
 ghost use Rattle.paper.specs.Known.{Laid, Shaped};
+ghost use Rattle.layout.specs.Firsts.{first};
 ghost use Rattle.evidence.specs.Stands.{fact_of, nodes_of, Stands, Ready, Whole, SoundRows};
 ghost use Rattle.evidence.specs.Edges.{Splits, From, BadStep};
 ghost use Rattle.evidence.specs.RowParts.{SetAt, RisingAt, missing, forgets, breaks_at};
 
 use crate::Head;
 use crate::rows::{elsewhere, row_at};
-use paper::{Sets, Trailer};
+use paper::{MANY, Sets, Trailer, UNFETCHED};
 
 // The row at `at`, a set of n blocks, holds x.
 fn holds(file: &[u8], at: usize, n: u16, x: u16) -> bool
     requires { SetAt file.now at n }
     ensures { result ≡ Facts.holds (Files.row_at file.now at) x }
 {
-    let mut i: u16 = 0;
-    while i < n {
-        if layout::slot_at(file, at, i) == x {
-            return true;
-        }
-        i += 1;
-    }
-    false
+    (0..n).any(|i| layout::slot_at(file, at, i) == x)
 }
 
 // The set at s lacks one of the n blocks of the set at r. Both rise, so one pass over the m blocks of s is enough.
@@ -34,10 +28,9 @@ fn drops(file: &[u8], r: usize, n: u16, s: usize, m: u16) -> bool
     ensures { result ≡ some (missing (Files.row_at file.now r) (Files.row_at file.now s)) n }
 {
     let mut i: u16 = 0;
-    let mut j: u16 = 0;
-    while i < n {
-        if m <= j {
-            return true;
+    for j in 0..m {
+        if n <= i {
+            return false;
         }
         let x = layout::slot_at(file, r, i);
         let y = layout::slot_at(file, s, j);
@@ -47,9 +40,8 @@ fn drops(file: &[u8], r: usize, n: u16, s: usize, m: u16) -> bool
         if x == y {
             i += 1;
         }
-        j += 1;
     }
-    false
+    i < n
 }
 
 // Node u's block x is not none, of b's set, and the set at s lacks it.
@@ -80,18 +72,18 @@ fn breaks(file: &[u8], trailer: Trailer, sets: Sets, h: Head, x: u16, i: u16, j:
     let s = row_at(file, h, j);
     let m = layout::number_at(file, s);
     if x == h.block {
-        return m == 9;
+        return m == UNFETCHED;
     }
     let r = row_at(file, h, i);
     let n = layout::number_at(file, r);
-    if n == 9 {
+    if n == UNFETCHED {
         return false;
     }
-    if n == 8 {
-        return m != 8;
+    if n == MANY {
+        return m != MANY;
     }
-    if 8 <= m {
-        return m != 8;
+    if MANY <= m {
+        return m != MANY;
     }
     if layout::same_row(file, r, s) {
         return lost(file, trailer, sets, h, x, s, m);
@@ -110,6 +102,7 @@ fn first_edge(file: &[u8], trailer: Trailer, v: u16) -> u16
 {
     let mut low: u16 = 0;
     let mut high: u16 = trailer.edges;
+    // `while`: the part that is left is halved.
     while low < high {
         let middle = (low + high) / 2;
         if layout::from_at(file, trailer, middle) < v {
@@ -146,28 +139,26 @@ fn bad_step(file: &[u8], trailer: Trailer, sets: Sets, h: Head, i: u16, u: u16) 
     )
 }
 
-// 17, 24 and 25, "an edge's rule broken": the least such edge, and the number of edges where there is none. The edges from nodes of the scope stand together.
-pub fn bad_steps(file: &[u8], trailer: Trailer, h: Head) -> u16
+// 17, 24 and 25, "an edge's rule broken": the least such edge. The edges from nodes of the scope stand together.
+pub fn bad_steps(file: &[u8], trailer: Trailer, h: Head) -> Option<u16>
     requires laid { Laid file.now trailer }
     requires shaped { Shaped (Files.case_of file.now trailer) }
     requires stands { Stands file.now trailer h }
     requires whole { Whole file.now h }
     requires sound_rows { SoundRows file.now trailer h }
-    ensures { result ≡ least (Facts.bad_step_at (Files.case_of file.now trailer) (fact_of file.now h)) trailer.edges }
+    ensures { result ≡ first (Facts.bad_step_at (Files.case_of file.now trailer) (fact_of file.now h)) trailer.edges }
 {
-    let sets = paper::sets_of(trailer.sets);
-    let mut i = first_edge(file, trailer, h.first);
-    while i < trailer.edges {
+    let sets = Sets::of(trailer.sets);
+    for i in first_edge(file, trailer, h.first)..trailer.edges {
         let u = layout::from_at(file, trailer, i);
         if h.last < u {
-            return trailer.edges;
+            return None;
         }
         if bad_step(file, trailer, sets, h, i, u) {
-            return i;
+            return Some(i);
         }
-        i += 1;
     }
-    i
+    None
 }
 
 // Which of 24, 25 and 17 edge i breaks, where it breaks one: u's block and row tell. Only the one edge that is told is looked at again.
@@ -182,7 +173,7 @@ pub fn step_number(file: &[u8], trailer: Trailer, h: Head, i: u16) -> u8
     if layout::node_at(file, trailer, u) == h.block {
         return 24;
     }
-    if layout::number_at(file, row_at(file, h, u - h.first)) == 8 {
+    if layout::number_at(file, row_at(file, h, u - h.first)) == MANY {
         return 25;
     }
     17

@@ -1,20 +1,16 @@
 -- Two outcomes that a C function's promise allows coincide: what it returns, and every number that it was handed to write.
+use Rattle.std.specs.Prelude.{Result, Option}
 use Prim.Native.Nat.{ℕ}
 use mathlib.Core.Path.{◌≡◌, sym, ◌∙◌, ap}
 use mathlib.Core.List.{List}
-use Rattle.paper.specs.declared.Verdict.{Verdict}
-use Rattle.paper.specs.declared.TraceAnswer.{TraceAnswer}
 use Rattle.paper.specs.declared.StepAnswer.{StepAnswer}
-use Rattle.paper.specs.declared.BlockAnswer.{BlockAnswer}
-use Rattle.paper.specs.declared.SetAnswer.{SetAnswer}
-use Rattle.paper.specs.declared.WriteAnswer.{WriteAnswer}
-use Rattle.paper.specs.declared.FindAnswer.{FindAnswer}
-use Rattle.paper.specs.declared.SalvageAnswer.{SalvageAnswer}
-use Rattle.paper.specs.declared.WaysAnswer.{WaysAnswer}
-use Rattle.paper.specs.declared.TimeAnswer.{TimeAnswer}
-use Rattle.paper.specs.Answers.{told_verdict, told_trace, told_outcome, told_block, told_set, told_write, told_find, told_salvage, told_ways, told_time, value_or, limit_or, second_or, counts_or}
+use Rattle.paper.specs.Answers.{Verdict, told_verdict, told_trace, told_outcome, told_block, told_set, told_write, told_find, told_salvage, told_ways, told_time, value_or, limit_or, second_or, counts_or}
 use Rattle.bolgverk.proofs.Determined.{step_determined, block_determined, set_determined, trace_determined, check_determined, write_determined, find_determined, salvage_determined, ways_determined, time_determined}
 use Rattle.exports.specs.Calls.{CheckCall, WriteCall, FindCall, SalvageCall, TraceCall, StepCall, BlockCall, SetCall, WaysCall, TimeCall}
+use Rattle.paper.specs.declared.Refusal.{Refusal}
+use Rattle.paper.specs.declared.Block.{Block}
+use Rattle.paper.specs.declared.SetNumber.{SetNumber}
+use Rattle.paper.specs.declared.Salvage.{Salvage}
 
 -- two results that are the same function of answers that are the same
 same : {A B : Type 0} (f : A → B) {v v' : A} {x x' : B} → v ≡ v' → x ≡ f v → x' ≡ f v' → x ≡ x'
@@ -36,10 +32,10 @@ module _ (version policy ways sets : ℕ) (nodes edges loops heads rows lent : L
       (r ≡ r') × (size ≡ size') × (at ≡ at') × (within ≡ within') × (after ≡ after')
   write_call_determined p q =
       let e = write_determined version policy ways sets nodes edges loops heads rows lent _ _ _ _ p.promise q.promise in (
-        same (λ (v : WriteAnswer). (told_write v).number) e.0 p.number q.number,
-        same (λ (v : WriteAnswer). value_or before (told_write v)) e.0 p.length q.length,
-        same (λ (v : WriteAnswer). (told_write v).place) e.0 p.place q.place,
-        same (λ (v : WriteAnswer). (told_write v).second) e.0 p.second q.second,
+        same (λ (v : Result ℕ Refusal). (told_write v).number) e.0 p.number q.number,
+        same (λ (v : Result ℕ Refusal). value_or before (told_write v)) e.0 p.length q.length,
+        same (λ (v : Result ℕ Refusal). (told_write v).place) e.0 p.place q.place,
+        same (λ (v : Result ℕ Refusal). (told_write v).second) e.0 p.second q.second,
         e.1,
       )
 
@@ -48,9 +44,9 @@ module _ (file : List ℕ) (scope block : ℕ) (lent : List ℕ) (before r r' le
       (r ≡ r') × (least ≡ least') × (at ≡ at') × (after ≡ after')
   find_call_determined p q =
       let e = find_determined file scope block lent _ _ _ _ p.promise q.promise in (
-        same (λ (v : FindAnswer). (told_find v).number) e.0 p.number q.number,
-        same (λ (v : FindAnswer). limit_or before (told_find v)) e.0 p.limit q.limit,
-        same (λ (v : FindAnswer). (told_find v).place) e.0 p.place q.place,
+        same (λ (v : Result (Option ℕ) Refusal). (told_find v).number) e.0 p.number q.number,
+        same (λ (v : Result (Option ℕ) Refusal). limit_or before (told_find v)) e.0 p.limit q.limit,
+        same (λ (v : Result (Option ℕ) Refusal). (told_find v).place) e.0 p.place q.place,
         e.1,
       )
 
@@ -60,10 +56,10 @@ module _ (file out list : List ℕ) (before beforeToo r r' size size' many many'
       (r ≡ r') × (size ≡ size') × (many ≡ many') × (at ≡ at') × (after ≡ after') × (listAfter ≡ listAfter')
   salvage_call_determined p q =
       let e = salvage_determined file out list _ _ _ _ _ _ p.promise q.promise in (
-        same (λ (v : SalvageAnswer). (told_salvage v).number) e.0 p.number q.number,
-        same (λ (v : SalvageAnswer). value_or before (told_salvage v)) e.0 p.length q.length,
-        same (λ (v : SalvageAnswer). second_or beforeToo (told_salvage v)) e.0 p.count q.count,
-        same (λ (v : SalvageAnswer). (told_salvage v).place) e.0 p.place q.place,
+        same (λ (v : Result Salvage Refusal). (told_salvage v).number) e.0 p.number q.number,
+        same (λ (v : Result Salvage Refusal). value_or before (told_salvage v)) e.0 p.length q.length,
+        same (λ (v : Result Salvage Refusal). second_or beforeToo (told_salvage v)) e.0 p.count q.count,
+        same (λ (v : Result Salvage Refusal). (told_salvage v).place) e.0 p.place q.place,
         e.1,
         e.2,
       )
@@ -73,9 +69,9 @@ module _ (policy ways sets : ℕ) (blocks lent : List ℕ) (before r r' counted 
       (r ≡ r') × (counted ≡ counted') × (at ≡ at') × (after ≡ after')
   trace_call_determined p q =
       let e = trace_determined policy ways sets blocks lent _ _ _ _ p.promise q.promise in (
-        same (λ (v : TraceAnswer). (told_trace v).number) e.0 p.number q.number,
-        same (λ (v : TraceAnswer). value_or before (told_trace v)) e.0 p.misses q.misses,
-        same (λ (v : TraceAnswer). (told_trace v).place) e.0 p.place q.place,
+        same (λ (v : Result ℕ Refusal). (told_trace v).number) e.0 p.number q.number,
+        same (λ (v : Result ℕ Refusal). value_or before (told_trace v)) e.0 p.misses q.misses,
+        same (λ (v : Result ℕ Refusal). (told_trace v).place) e.0 p.place q.place,
         e.1,
       )
 
@@ -93,21 +89,21 @@ module _ (address line_size before r r' after after' : ℕ) where
   pub block_call_determined : BlockCall address line_size before r after → BlockCall address line_size before r' after' → (r ≡ r') × (after ≡ after')
   block_call_determined p q =
       let e = block_determined _ line_size _ _ p.promise q.promise in
-      (same (λ (v : BlockAnswer). (told_block v).number) e p.number q.number, same (λ (v : BlockAnswer). value_or before (told_block v)) e p.block q.block)
+      (same (λ (v : Result Block Refusal). (told_block v).number) e p.number q.number, same (λ (v : Result Block Refusal). value_or before (told_block v)) e p.block q.block)
 
 module _ (block sets before r r' after after' : ℕ) where
   pub set_call_determined : SetCall block sets before r after → SetCall block sets before r' after' → (r ≡ r') × (after ≡ after')
   set_call_determined p q =
       let e = set_determined _ sets _ _ p.promise q.promise in
-      (same (λ (v : SetAnswer). (told_set v).number) e p.number q.number, same (λ (v : SetAnswer). value_or before (told_set v)) e p.set q.set)
+      (same (λ (v : Result SetNumber Refusal). (told_set v).number) e p.number q.number, same (λ (v : Result SetNumber Refusal). value_or before (told_set v)) e p.set q.set)
 
 module _ (sets : ℕ) (blocks before : List ℕ) (r r' at at' : ℕ) (after after' : List ℕ) where
   pub ways_call_determined : WaysCall sets blocks before r at after → WaysCall sets blocks before r' at' after' → (r ≡ r') × (at ≡ at') × (after ≡ after')
   ways_call_determined p q =
       let e = ways_determined sets blocks _ _ p.promise q.promise in (
-        same (λ (v : WaysAnswer). (told_ways v).number) e p.number q.number,
-        same (λ (v : WaysAnswer). (told_ways v).place) e p.place q.place,
-        same (λ (v : WaysAnswer). counts_or before (told_ways v)) e p.counts q.counts,
+        same (λ (v : Result (List ℕ) Refusal). (told_ways v).number) e p.number q.number,
+        same (λ (v : Result (List ℕ) Refusal). (told_ways v).place) e p.place q.place,
+        same (λ (v : Result (List ℕ) Refusal). counts_or before (told_ways v)) e p.counts q.counts,
       )
 
 module _ (file costs : List ℕ) (penalty interruptions before r r' most most' at at' within within' : ℕ) where
@@ -115,8 +111,8 @@ module _ (file costs : List ℕ) (penalty interruptions before r r' most most' a
       (r ≡ r') × (most ≡ most') × (at ≡ at') × (within ≡ within')
   time_call_determined p q =
       let e = time_determined file costs penalty interruptions _ _ p.promise q.promise in (
-        same (λ (v : TimeAnswer). (told_time v).number) e p.number q.number,
-        same (λ (v : TimeAnswer). value_or before (told_time v)) e p.cycles q.cycles,
-        same (λ (v : TimeAnswer). (told_time v).place) e p.place q.place,
-        same (λ (v : TimeAnswer). (told_time v).second) e p.second q.second,
+        same (λ (v : Result ℕ Refusal). (told_time v).number) e p.number q.number,
+        same (λ (v : Result ℕ Refusal). value_or before (told_time v)) e p.cycles q.cycles,
+        same (λ (v : Result ℕ Refusal). (told_time v).place) e p.place q.place,
+        same (λ (v : Result ℕ Refusal). (told_time v).second) e p.second q.second,
       )

@@ -1,14 +1,14 @@
 -- The body of the fact at hand: where its rows end, what it is to the next fact, and the chain.
+use Rattle.std.specs.Prelude.{Ok}
 use Prim.Native.Nat.{ℕ, ◌+◌, ◌*◌}
 use native.Mathlib.Omega.{arith}
 use mathlib.Core.Path.{◌≡◌, refl, sym, ◌∙◌, ap}
-use mathlib.Core.Bool.{Bool, true, false}
+use mathlib.Core.Bool.{Bool, false}
 use mathlib.Core.List.{List}
 use lib.Dec.{ltb}
 use borrow.Author.Tests.{ltb-false}
 use Rattle.paper.specs.declared.Trailer.{Trailer}
-use Rattle.paper.specs.declared.Verdict.{Verdict}
-use Rattle.paper.specs.declared.Verdict.TheVariants.{Accepted}
+use Rattle.paper.specs.Answers.{Verdict}
 use Rattle.paper.specs.Facts.{unfetched}
 use Rattle.paper.specs.Files.{end_at, fact_end, case_of}
 use Rattle.paper.specs.Rules.{rule}
@@ -34,13 +34,13 @@ module _ (f : List ℕ) (trailer : Trailer) (h : Head) (s : Stands f trailer h) 
       pub whole : b ≡ false → Whole f h
       whole z = record { room = omega (arith, ltb-false (end_at f) (h.place + 6 + rows) (sym q ∙ z)) }
 
-      pub next_of : b ≡ false → Next f trailer h.place (record { previous = record { any = true; block = h.block; last = h.last }; end = h.place + 6 + rows })
+      pub next_of : b ≡ false → Next f trailer h.place (record { previous = record { block = h.block; last = h.last }; end = h.place + 6 + rows })
       unfolding case_of
       next_of z = record { previous_is = rw (s.block, s.last) refl; end_is = rows_end; room = ltb-false _ _ (sym q ∙ z) }
 
   -- the chain, by the outcomes a and b of its first tests and the evidence's verdict v
   pub body_is :
       (i : ℕ) (a b : Bool) (v : Verdict) → a ≡ unfetched (case_of f trailer) (fact_of f h) → b ≡ ltb (end_at f) (fact_end f trailer h.place) →
-      v ≡ evidence_rules (case_of f trailer) i (fact_of f h) Accepted → rule 14 i a (rule 15 i b v) ≡ body_rules f trailer i h.place Accepted
+      v ≡ evidence_rules (case_of f trailer) i (fact_of f h) (Ok tt) → rule 14 i a (rule 15 i b v) ≡ body_rules f trailer i h.place (Ok tt)
   unfolding body_rules fetch_rule
   body_is i a b v x y z = cc

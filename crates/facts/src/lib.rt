@@ -1,7 +1,7 @@
 // Rules 11 to 19: the facts judged in turn, and what is left after the last.
 #![tactic(auto)]
 
-ghost use Rattle.std.specs.Prelude.{◌≡◌, ◌+◌, ◌≤◌, ltb};
+ghost use Rattle.std.specs.Prelude.{◌≡◌, ◌+◌, ◌≤◌, ltb, Ok};
 ghost use Rattle.paper.specs.Facts as Facts;
 ghost use Rattle.paper.specs.Files.{end_at, head_end, case_of};
 ghost use Rattle.paper.specs.Known.{Laid, Shaped};
@@ -11,7 +11,7 @@ ghost use Rattle.facts.specs.Turns.{names_at, Told};
 
 use evidence::Head;
 use layout::HEAD_SIZE;
-use paper::{Previous, Refusal, Trailer, Verdict};
+use paper::{Previous, Refusal, Trailer};
 
 // "A fact names a scope …, a block b and an age limit l", as they stand in the file.
 #[derive(Clone, Copy)]
@@ -26,12 +26,6 @@ pub struct Names {
 pub struct Kept {
     pub previous: Previous,
     pub end: usize,
-}
-
-#[derive(Clone, Copy)]
-pub enum Turn {
-    Kept(Kept),
-    Refused(Refusal),
 }
 
 // From p on, fewer than n bytes are left before the trailer.
@@ -70,14 +64,17 @@ pub fn wrong_head(trailer: Trailer, w: u16, b: u16, l: u16) -> bool
 }
 
 // 13: "block below the previous fact's, or equal and its scope starts at or before the previous scope's last node"
-pub fn wrong_order(previous: Previous, b: u16, first: u16) -> bool
+pub fn wrong_order(previous: Option<Previous>, b: u16, first: u16) -> bool
     ensures { result ≡ Facts.wrong_order previous b first }
 {
-    previous.any & ((b < previous.block) | ((b == previous.block) & (first <= previous.last)))
+    match previous {
+        Some(p) => (b < p.block) | ((b == p.block) & (first <= p.last)),
+        None => false,
+    }
 }
 
 // 14 to 18, for fact i, which is the one at hand and whose head is there.
-fn weigh(file: &[u8], trailer: Trailer, i: u16, h: Head) -> Turn
+fn weigh(file: &[u8], trailer: Trailer, i: u16, h: Head) -> Result<Kept, Refusal>
     requires laid { Laid file.now trailer }
     requires shaped { Shaped (case_of file.now trailer) }
     requires stands { Stands file.now trailer h }
@@ -85,44 +82,46 @@ fn weigh(file: &[u8], trailer: Trailer, i: u16, h: Head) -> Turn
     ensures { Told file.now trailer h.place (Verdicts.body_rules file.now trailer i h.place) result }
 {
     if evidence::unfetched(file, trailer, h) {
-        return Turn::Refused(paper::refuse(14, i as usize));
+        return Err(paper::refuse(14, i as usize));
     }
     let begin = h.place + HEAD_SIZE;
-    let rows = layout::rows_size(evidence::nodes_of(h));
+    let rows = layout::rows_size(h.nodes());
     if short_of(file, trailer, begin, rows) {
-        return Turn::Refused(paper::refuse(15, i as usize));
+        return Err(paper::refuse(15, i as usize));
     }
-    let evidence = evidence::evidence_rules(file, trailer, i, h);
-    match evidence {
-        Verdict::Accepted => Turn::Kept(Kept {
-            previous: Previous {
-                any: true,
-                block: h.block,
-                last: h.last,
-            },
-            end: begin + rows,
-        }),
-        Verdict::Refused(r) => Turn::Refused(r),
-    }
+    evidence::evidence_rules(file, trailer, i, h)?;
+    Ok(Kept {
+        previous: Previous {
+            block: h.block,
+            last: h.last,
+        },
+        end: begin + rows,
+    })
 }
 
 // The turn of fact i, which stands at p, after the previous one.
-pub fn turn_of(file: &[u8], trailer: Trailer, i: u16, previous: Previous, p: usize) -> Turn
+pub fn turn_of(
+    file: &[u8],
+    trailer: Trailer,
+    i: u16,
+    previous: Option<Previous>,
+    p: usize,
+) -> Result<Kept, Refusal>
     requires laid { Laid file.now trailer }
     requires shaped { Shaped (case_of file.now trailer) }
     requires p_bound { p ≤ end_at file.now }
     ensures { Told file.now trailer p (Verdicts.turn_rules file.now trailer i previous p) result }
 {
     if short_of(file, trailer, p, HEAD_SIZE) {
-        return Turn::Refused(paper::refuse(11, i as usize));
+        return Err(paper::refuse(11, i as usize));
     }
     let n = names_at(file, trailer, p);
     if wrong_head(trailer, n.scope, n.block, n.limit) {
-        return Turn::Refused(paper::refuse(12, i as usize));
+        return Err(paper::refuse(12, i as usize));
     }
     let scope = layout::range_at(file, trailer, n.scope);
     if wrong_order(previous, n.block, scope.first) {
-        return Turn::Refused(paper::refuse(13, i as usize));
+        return Err(paper::refuse(13, i as usize));
     }
     let home = paper::home(n.block, trailer.sets);
     weigh(
@@ -141,31 +140,20 @@ pub fn turn_of(file: &[u8], trailer: Trailer, i: u16, previous: Previous, p: usi
 }
 
 // "then for each fact in turn 11 to 18; then 19"
-pub fn fact_rules(file: &[u8], trailer: Trailer) -> Verdict
+pub fn fact_rules(file: &[u8], trailer: Trailer) -> Result<(), Refusal>
     requires laid { Laid file.now trailer }
     requires shaped { Shaped (case_of file.now trailer) }
-    ensures { result ≡ Verdicts.fact_rules file.now trailer Verdict.Accepted }
+    ensures { result ≡ Verdicts.fact_rules file.now trailer (Ok tt) }
 {
-    let mut p: usize = layout::facts_at(trailer);
-    let mut previous = Previous {
-        any: false,
-        block: 0,
-        last: 0,
-    };
-    let mut i: u16 = 0;
-    while i < trailer.facts {
-        let r = turn_of(file, trailer, i, previous, p);
-        match r {
-            Turn::Refused(x) => return Verdict::Refused(x),
-            Turn::Kept(kept) => {
-                previous = kept.previous;
-                p = kept.end;
-                i += 1;
-            }
-        }
+    let mut p = layout::facts_at(trailer);
+    let mut previous = None;
+    for i in 0..trailer.facts {
+        let kept = turn_of(file, trailer, i, previous, p)?;
+        previous = Some(kept.previous);
+        p = kept.end;
     }
     if p < layout::end_of(file) {
-        return Verdict::Refused(paper::refuse(19, 0));
+        return Err(paper::refuse(19, 0));
     }
-    Verdict::Accepted
+    Ok(())
 }

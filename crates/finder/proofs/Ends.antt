@@ -1,5 +1,6 @@
 -- How a search ends: refused, with no limit, or with the least limit and its rows.
-use Prim.Native.Nat.{ℕ, ◌*◌, ◌≤◌, ◌<◌}
+use Rattle.std.specs.Prelude.{Ok, Err}
+use Prim.Native.Nat.{ℕ, suc, ◌-◌, ◌*◌, ◌≤◌, ◌<◌}
 use native.Mathlib.Omega.{arith}
 use mathlib.Core.Path.{◌≡◌, sym, ◌∙◌, subst}
 use mathlib.Core.Bool.{false}
@@ -8,9 +9,7 @@ use mathlib.Core.List.{List, [], ◌∷◌, ◌++◌}
 use lib.ListN.{length, get_or, drop}
 use Rattle.paper.specs.declared.Refusal.{Refusal}
 use Rattle.paper.specs.declared.Trailer.{Trailer}
-use Rattle.paper.specs.declared.Verdict.{Verdict}
-use Rattle.paper.specs.declared.Verdict.TheVariants.{Accepted, Refused}
-use Rattle.paper.specs.Answers.{Told, tells, tells_why}
+use Rattle.paper.specs.Answers.{Verdict, Told, tells, tells_why}
 use Rattle.paper.specs.Cases.{Fact, Case, size, scope_of}
 use Rattle.paper.specs.Facts.{bad_head}
 use Rattle.paper.specs.Files.{trailer_of, case_of}
@@ -19,7 +18,6 @@ use Rattle.paper.specs.Known.{Shaped}
 use Rattle.paper.specs.Verdicts.{graph_rules}
 use Rattle.paper.proofs.RuleLaws.{accepted_on, refused_on}
 use Rattle.paper.proofs.VerdictLaws.{graph_kept, hands_graph}
-use Rattle.layout.specs.declared.Layout.TheVariants as Layouts
 use Rattle.layout.specs.Layouts.{layout_of}
 use Rattle.layout.proofs.Laws.{read_trailer, read_laid, read_rules, refused_rules}
 use Rattle.search.specs.Steps.{plain}
@@ -27,27 +25,28 @@ use Rattle.search.specs.Passes.{table_row, most_to, rows_found}
 use Rattle.search.proofs.Justly.{Asked}
 use Rattle.search.proofs.Searching.{Searched, Settled, searched_start}
 use Rattle.search.proofs.Outcomes.{kept, asked_of, finds_none, finds_limit}
-use Rattle.gather.specs.declared.Sought.{Sought}
-use Rattle.finder.specs.Scopes.{fact_by, nodes_by, TrailerRead, NotRefused}
+use Rattle.gather.specs.declared.sought.Sought.{Sought}
+use Rattle.finder.specs.Scopes.{fact_by, Scoped, TrailerRead, NotRefused}
+use Rattle.finder.proofs.Asked.{nodes_is}
 
 -- Rules 6 to 10 and 26, then those of what is sought: v is the graph's verdict.
-module _ (e : Case) (v : Verdict) (a : v ≡ graph_rules e Accepted) where
-  pub graph_refused : (r : Refusal) → v ≡ Refused r → (rest : Verdict) → Refused r ≡ graph_rules e rest
+module _ (e : Case) (v : Verdict) (a : v ≡ graph_rules e (Ok tt)) where
+  pub graph_refused : (r : Refusal) → v ≡ Err r → (rest : Verdict) → Err r ≡ graph_rules e rest
   graph_refused r q rest = sym (refused_on (graph_rules e) (hands_graph e) rest v a r q)
 
-  module _ (q : v ≡ Accepted) where
+  module _ (q : v ≡ Ok tt) where
     pub graph_shaped : Shaped e
-    graph_shaped = (graph_kept e Accepted (sym a ∙ q)).0
+    graph_shaped = (graph_kept e (Ok tt) (sym a ∙ q)).0
 
     pub sought_decides : (w rest : Verdict) → w ≡ rest → w ≡ graph_rules e rest
     sought_decides w rest p = p ∙ sym (accepted_on (graph_rules e) (hands_graph e) rest v a q)
 
 -- rules 1 to 5 refuse
-pub ends_unread : (f : List ℕ) (scope block : ℕ) (lent : List ℕ) (r : Refusal) → layout_of f ≡ Layouts.Refused r → FindOutcome f scope block lent (tells_why r) lent
+pub ends_unread : (f : List ℕ) (scope block : ℕ) (lent : List ℕ) (r : Refusal) → layout_of f ≡ Err r → FindOutcome f scope block lent (tells_why r) lent
 unfolding find_verdict
 ends_unread f scope block lent r e = refused r (refused_rules f r _ e)
 
-pub trailer_read_lem : (f : List ℕ) (trailer : Trailer) → layout_of f ≡ Layouts.Read trailer → TrailerRead f trailer
+pub trailer_read_lem : (f : List ℕ) (trailer : Trailer) → layout_of f ≡ Ok trailer → TrailerRead f trailer
 trailer_read_lem f trailer e = record { is = read_trailer f trailer e; laid = read_laid f trailer e; rules = read_rules f trailer e }
 
 module _ (f : List ℕ) (scope block : ℕ) where
@@ -62,17 +61,17 @@ module _ (f : List ℕ) (scope block : ℕ) where
   nodes x = size (scope_of (by x) (fact x))
 
   module _ (trailer : Trailer) (read : TrailerRead f trailer) where
-    verdict_is : (room : ℕ) → graph_rules (by trailer) (sought_rules (by trailer) (fact trailer) room Accepted) ≡ find_verdict f scope block room
+    verdict_is : (room : ℕ) → graph_rules (by trailer) (sought_rules (by trailer) (fact trailer) room (Ok tt)) ≡ find_verdict f scope block room
     unfolding find_verdict
     verdict_is room =
-        subst (λ (x : Trailer). graph_rules (by x) (sought_rules (by x) (fact x) room Accepted) ≡ find_verdict f scope block room) (sym read.is) (sym (read.rules _))
+        subst (λ (x : Trailer). graph_rules (by x) (sought_rules (by x) (fact x) room (Ok tt)) ≡ find_verdict f scope block room) (sym read.is) (sym (read.rules _))
 
     -- v is the verdict of all rules from 6 on
-    module _ (lent : List ℕ) (v : Verdict) (a : v ≡ graph_rules (by trailer) (sought_rules (by trailer) (fact trailer) (length lent) Accepted)) where
-      pub ends_refused : (r : Refusal) → v ≡ Refused r → FindOutcome f scope block lent (tells_why r) lent
+    module _ (lent : List ℕ) (v : Verdict) (a : v ≡ graph_rules (by trailer) (sought_rules (by trailer) (fact trailer) (length lent) (Ok tt))) where
+      pub ends_refused : (r : Refusal) → v ≡ Err r → FindOutcome f scope block lent (tells_why r) lent
       ends_refused r q = refused r (sym (verdict_is (length lent)) ∙ sym a ∙ q)
 
-      module _ (q : v ≡ Accepted) where
+      module _ (q : v ≡ Ok tt) where
         pub not_refused : NotRefused f scope block (length lent)
         not_refused = record { accepted = sym (verdict_is (length lent)) ∙ sym a ∙ q }
 
@@ -119,6 +118,8 @@ module _ (q : Sought) (scope block : ℕ) (a : q.scope ≡ scope) (b : q.block �
       subst (λ (x : ℕ). FindOutcome f x block lent told after) a (subst (λ (x : ℕ). FindOutcome f q.scope x lent told after) b h)
 
 -- the table before the first pass
-pub started : (f : List ℕ) (trailer : Trailer) (q : Sought) (n : ℕ) → n ≡ nodes_by f trailer q → (l : List ℕ) → 8 * n ≤ length l → ((j : ℕ) → j < n → table_row l j ≡ plain 9) →
+pub started : (f : List ℕ) (trailer : Trailer) (q : Sought) → Scoped f trailer q → (n : ℕ) → n ≡ suc q.last - q.first → (l : List ℕ) → 8 * n ≤ length l → ((j : ℕ) → j < n → table_row l j ≡ plain 9) →
     Searched (case_of f trailer) (fact_by f trailer q) l
-started f trailer q n p l long w = searched_start (case_of f trailer) (fact_by f trailer q) l (omega arith) (λ j m. w j (omega arith))
+started f trailer q s n p l long w =
+    let e = nodes_is f trailer q s n p in
+    searched_start (case_of f trailer) (fact_by f trailer q) l (omega arith) (λ j m. w j (omega arith))

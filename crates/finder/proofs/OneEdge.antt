@@ -1,6 +1,5 @@
 -- One edge of a pass: it leaves the scope, or changes nothing, or its end gets another row.
 use Prim.Native.Nat.{ℕ, ◌-◌, ◌≤◌}
-use native.Mathlib.Omega.{arith}
 use mathlib.Core.Path.{◌≡◌, refl, sym, ◌∙◌, ap, ap₂, subst}
 use mathlib.Core.Bool.{Bool, true, false, not, ◌&&◌}
 use mathlib.Core.Logic.{◌≢◌}
@@ -8,12 +7,11 @@ use mathlib.Core.List.{List}
 use lib.Dec.{leb}
 use borrow.Author.Tests.{eq-eqb, ne_eqb, not-true, not-false}
 use Rattle.paper.specs.Cases.{Fact, Case, inside, scope_of}
-use Rattle.paper.proofs.Says.{says_true}
-use Rattle.paper.proofs.GraphLaws.{inside_says}
+use Rattle.paper.proofs.Says.{says_true, says_and, says_le}
 use Rattle.search.specs.Steps.{number_of, stepped}
 use Rattle.search.specs.Passes.{table_row, with_row, node_row, within, stepped_at, changes, after_edge}
 use Rattle.search.proofs.Searching.{Searched, numbers_low}
-use Rattle.gather.specs.declared.Sought.{Sought}
+use Rattle.gather.specs.declared.sought.Sought.{Sought}
 use Rattle.gather.specs.Seeking.{Seeks}
 
 both : (x y : Bool) → (x && y) ≡ true → (x ≡ true) × (y ≡ true)
@@ -29,13 +27,27 @@ and_false : (x : Bool) → (x && false) ≡ false
 and_false true = refl
 and_false false = refl
 
+-- x and y tell whether the edge's ends u and v are inside: they are
+pub stays : (q : Sought) (u v : ℕ) (x y : Bool) → x ≡ (leb q.first u && leb u q.last) → y ≡ (leb q.first v && leb v q.last) → not (x && y) ≡ false →
+    (q.first ≤ u) × (u ≤ q.last) × (q.first ≤ v) × (v ≤ q.last)
+stays q u v x y o z h =
+    let inside = λ (w : ℕ). says_and (says_le q.first w) (says_le w q.last) in
+    let b = says_true (says_and (inside u) (inside v)) (ap₂ ◌&&◌ (sym o) (sym z) ∙ not-false (x && y) h) in
+    (b.0.0, b.0.1, b.1.0, b.1.1)
+
 module _ (e : Case) (t : Fact) (q : Sought) (k : Seeks e t q) where
-  pub inside_is : (w : ℕ) → (leb q.first w && leb w q.last) ≡ inside (scope_of e t) w
+  inside_is : (w : ℕ) → (leb q.first w && leb w q.last) ≡ inside (scope_of e t) w
   unfolding inside
   inside_is w = rw (k.first, k.last) refl
 
   -- x and y tell whether the edge's ends u and v are inside
-  module _ (u v : ℕ) (x y : Bool) (p : x ≡ inside (scope_of e t) u) (r : y ≡ inside (scope_of e t) v) where
+  module _ (u v : ℕ) (x y : Bool) (o : x ≡ (leb q.first u && leb u q.last)) (z : y ≡ (leb q.first v && leb v q.last)) where
+    p : x ≡ inside (scope_of e t) u
+    p = o ∙ inside_is u
+
+    r : y ≡ inside (scope_of e t) v
+    r = z ∙ inside_is v
+
     -- they are: so their rows are rows of the table
     module _ (h : not (x && y) ≡ false) where
       from_inside : inside (scope_of e t) u ≡ true
@@ -43,12 +55,6 @@ module _ (e : Case) (t : Fact) (q : Sought) (k : Seeks e t q) where
 
       to_inside : inside (scope_of e t) v ≡ true
       to_inside = sym r ∙ (both x y (not-false (x && y) h)).1
-
-      pub ends_inside : (q.first ≤ u) × (u ≤ q.last) × (q.first ≤ v) × (v ≤ q.last)
-      ends_inside =
-          let a = says_true (inside_says (scope_of e t) u) from_inside in
-          let b = says_true (inside_says (scope_of e t) v) to_inside in
-          (omega (arith, k.first), omega (arith, k.last), omega (arith, k.first), omega (arith, k.last))
 
       pub from_low : (l : List ℕ) → Searched e t l → (from : List ℕ) → from ≡ table_row l (u - q.first) → number_of from ≤ 9
       from_low l s from z =

@@ -1,6 +1,5 @@
 // What is asked for, and the refusals after the graph's: 12, 14 and 20.
-ghost use Rattle.std.specs.Prelude.{◌≡◌, ◌≢◌, ◌*◌, ◌<◌, ◌≤◌};
-ghost use Rattle.paper.specs.Ceilings.{most_nodes};
+ghost use Rattle.std.specs.Prelude.{◌≡◌, ◌≢◌, ◌*◌, ◌<◌, Ok};
 ghost use Rattle.paper.specs.Cases as Cases;
 ghost use Rattle.paper.specs.Facts as Facts;
 ghost use Rattle.paper.specs.Files.{case_of};
@@ -10,7 +9,7 @@ ghost use Rattle.finder.specs.Scopes.{fact_by, nodes_by, Scoped};
 
 use crate::table::PER_ROW;
 use gather::Sought;
-use paper::{Trailer, Verdict};
+use paper::{Refusal, Sets, Trailer};
 
 // "for each block and a scope handed to it": the scope's nodes, and "limit up to k".
 pub fn sought_of(file: &[u8], trailer: Trailer, scope: u16, block: u16) -> Sought
@@ -21,25 +20,16 @@ pub fn sought_of(file: &[u8], trailer: Trailer, scope: u16, block: u16) -> Sough
     ensures scoped { Scoped file.now trailer result }
 {
     let range = layout::range_at(file, trailer, scope);
-    let sets = paper::sets_of(trailer.sets);
+    let sets = Sets::of(trailer.sets);
     Sought {
         scope: scope,
         first: range.first,
         last: range.last,
         block: block,
         limit: trailer.ways as u16,
-        home: paper::home_in(block, sets),
+        home: sets.home(block),
         sets: sets,
     }
-}
-
-// How many nodes the scope has. (File and trailer are handed on for the contract.)
-pub fn nodes_of(file: &[u8], trailer: Trailer, q: Sought) -> u16
-    requires { Scoped file.now trailer q }
-    ensures value { result ≡ nodes_by file.now trailer q }
-    ensures upper_bound { result ≤ most_nodes }
-{
-    q.last + 1 - q.first
 }
 
 pub fn fetches(file: &[u8], trailer: Trailer, q: Sought, j: u16) -> bool
@@ -57,32 +47,30 @@ fn unfetched(file: &[u8], trailer: Trailer, q: Sought) -> bool
     requires scoped { Scoped file.now trailer q }
     ensures { result ≡ Facts.unfetched (case_of file.now trailer) (fact_by file.now trailer q) }
 {
-    let n = nodes_of(file, trailer, q);
-    let mut j: u16 = 0;
-    while j < n {
-        if fetches(file, trailer, q, j) {
-            return false;
-        }
-        j += 1;
-    }
-    true
+    !evidence::fetched(file, trailer, q.first, q.nodes(), q.block)
 }
 
 // "then 12 for a bad scope or block, 14, and 20 for too little room for the rows of the whole scope; the last three have place 0"
-pub fn sought_rules(file: &[u8], trailer: Trailer, scope: u16, block: u16, room: usize) -> Verdict
+pub fn sought_rules(
+    file: &[u8],
+    trailer: Trailer,
+    scope: u16,
+    block: u16,
+    room: usize,
+) -> Result<(), Refusal>
     requires laid { Laid file.now trailer }
     requires shaped { Shaped (case_of file.now trailer) }
-    ensures { result ≡ sought_rules (case_of file.now trailer) (sought (case_of file.now trailer) scope block) room Verdict.Accepted }
+    ensures { result ≡ sought_rules (case_of file.now trailer) (sought (case_of file.now trailer) scope block) room (Ok tt) }
 {
     if facts::wrong_head(trailer, scope, block, trailer.ways as u16) {
-        return Verdict::Refused(paper::refuse(12, 0));
+        return Err(paper::refuse(12, 0));
     }
     let q = sought_of(file, trailer, scope, block);
     if unfetched(file, trailer, q) {
-        return Verdict::Refused(paper::refuse(14, 0));
+        return Err(paper::refuse(14, 0));
     }
-    if room < PER_ROW * (nodes_of(file, trailer, q) as usize) {
-        return Verdict::Refused(paper::refuse(20, 0));
+    if room < PER_ROW * (q.nodes() as usize) {
+        return Err(paper::refuse(20, 0));
     }
-    Verdict::Accepted
+    Ok(())
 }

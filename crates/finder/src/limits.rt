@@ -9,26 +9,23 @@ ghost use Rattle.search.specs.Passes as Passes;
 ghost use Rattle.search.proofs.Searching.{Searched};
 ghost use Rattle.finder.specs.Scopes.{fact_by, nodes_by, Scoped};
 
-use crate::asking::{fetches, nodes_of};
+use crate::asking::fetches;
 use crate::table::{TABLE, put_row, row_of};
 use gather::Sought;
-use paper::Trailer;
+use paper::{Trailer, UNFETCHED};
+
+// "Many" asks for one more than any limit.
+pub const NO_LIMIT: u16 = 9;
 
 // The limit that a row with this number asks for where b is fetched.
 fn asks(n: u16) -> u16
     requires { n ≤ 9 }
     ensures { result ≡ Passes.asks n }
 {
-    if n == 9 {
+    if n == UNFETCHED {
         return 1;
     }
     n + 1
-}
-
-fn greater(a: u16, b: u16) -> u16
-    ensures { result ≡ max a b }
-{
-    if a < b { b } else { a }
 }
 
 // The most that is asked for, with the scope's node j.
@@ -48,7 +45,7 @@ fn most_with(
 {
     if fetches(file, trailer, q, j) {
         let r = row_of(table, j as usize);
-        return greater(most, asks(r[0]));
+        return most.max(asks(r[0]));
     }
     most
 }
@@ -60,12 +57,9 @@ pub fn most_asked(file: &[u8], trailer: Trailer, q: Sought, table: &[u16; TABLE]
     requires searched { Searched (case_of file.now trailer) (fact_by file.now trailer q) table.now }
     ensures { result ≡ Passes.most_to (case_of file.now trailer) (fact_by file.now trailer q) table.now (nodes_by file.now trailer q) }
 {
-    let n = nodes_of(file, trailer, q);
     let mut most: u16 = 0;
-    let mut j: u16 = 0;
-    while j < n {
+    for j in 0..q.nodes() {
         most = most_with(file, trailer, q, table, j, most);
-        j += 1;
     }
     most
 }
@@ -83,10 +77,7 @@ pub fn lend_rows(
     requires q_in_bounds { rows_length (case_of file.now trailer) (fact_by file.now trailer q) ≤ length rows.old }
     ensures { rows.new ≡ Passes.rows_found (case_of file.now trailer) (fact_by file.now trailer q) table.now l ++ drop (rows_length (case_of file.now trailer) (fact_by file.now trailer q)) rows.old }
 {
-    let n = nodes_of(file, trailer, q) as usize;
-    let mut j = 0;
-    while j < n {
+    for j in 0..q.nodes() as usize {
         put_row(rows, j, gather::lowered(l, row_of(table, j)));
-        j += 1;
     }
 }

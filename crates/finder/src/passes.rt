@@ -1,23 +1,15 @@
 // Passes over the edges of the scope, in file order, until nothing changes.
 ghost use Rattle.std.specs.Prelude.{◌≡◌, ◌<◌};
-ghost use Rattle.paper.specs.Cases.{inside};
 ghost use Rattle.paper.specs.Files.{case_of};
 ghost use Rattle.paper.specs.Known.{Laid};
 ghost use Rattle.search.specs.Passes as Passes;
 ghost use Rattle.search.proofs.Justly.{Asked};
 ghost use Rattle.search.proofs.Searching.{Searched, Settled};
-ghost use Rattle.finder.specs.Scopes.{fact_by, scope_by, Scoped};
+ghost use Rattle.finder.specs.Scopes.{fact_by, Scoped};
 
 use crate::table::{TABLE, put_row, row_of};
 use gather::Sought;
 use paper::Trailer;
-
-fn is_inside(file: &[u8], trailer: Trailer, q: Sought, v: u16) -> bool
-    requires { Scoped file.now trailer q }
-    ensures { result ≡ inside (scope_by file.now trailer q) v }
-{
-    (q.first <= v) & (v <= q.last)
-}
 
 // One edge, from u to v: v's row becomes what the edge makes of it. Whether it is another row.
 fn take_edge(file: &[u8], trailer: Trailer, q: Sought, table: &mut [u16; TABLE], i: u16) -> bool
@@ -30,7 +22,7 @@ fn take_edge(file: &[u8], trailer: Trailer, q: Sought, table: &mut [u16; TABLE],
 {
     let u = layout::from_at(file, trailer, i);
     let v = layout::to_at(file, trailer, i);
-    if !(is_inside(file, trailer, q, u) & is_inside(file, trailer, q, v)) {
+    if !(q.contains(u) & q.contains(v)) {
         return false;
     }
     let at = (v - q.first) as usize;
@@ -54,10 +46,8 @@ fn pass(file: &[u8], trailer: Trailer, q: Sought, table: &mut [u16; TABLE]) -> b
     ensures table_after { table.new ≡ Passes.pass_to (case_of file.now trailer) (fact_by file.now trailer q) table.old trailer.edges }
 {
     let mut changed = false;
-    let mut i: u16 = 0;
-    while i < trailer.edges {
-        changed = changed | take_edge(file, trailer, q, table, i);
-        i += 1;
+    for i in 0..trailer.edges {
+        changed |= take_edge(file, trailer, q, table, i);
     }
     changed
 }
@@ -70,5 +60,6 @@ pub fn settle(file: &[u8], trailer: Trailer, q: Sought, table: &mut [u16; TABLE]
     requires searched { Searched (case_of file.now trailer) (fact_by file.now trailer q) table.old }
     ensures { Settled (case_of file.now trailer) (fact_by file.now trailer q) table.new }
 {
+    // `while`: the graph decides how many passes there are.
     while pass(file, trailer, q, table) {}
 }

@@ -5,12 +5,13 @@ ghost use Rattle.paper.specs.Writing.{per_row};
 ghost use Rattle.search.specs.Steps as Steps;
 ghost use Rattle.search.specs.Passes as Passes;
 
-use paper::MOST_NODES;
+use paper::{MOST_NODES, UNFETCHED};
 
 pub const PER_ROW: usize = 8;
 
 pub const TABLE: usize = PER_ROW * MOST_NODES;
 
+// The eight numbers one by one, here and in `put_row`: with `copy_from_slice` the finder executes up to two fifths more instructions.
 pub fn row_of(table: &[u16; TABLE], j: usize) -> [u16; 8]
     requires { j < most_nodes }
     ensures { result ≡ Passes.table_row table.now j }
@@ -49,9 +50,7 @@ pub fn start(table: &mut [u16], n: usize)
     ensures by_index { (j : ℕ) → j < n → Passes.table_row table.new j ≡ Steps.plain 9 }
     ensures table_len_unchanged { length table.new ≡ length table.old }
 {
-    let mut j = 0;
-    while j < n {
-        put_row(table, j, gather::plain(9));
-        j += 1;
+    for j in 0..n {
+        put_row(table, j, gather::plain(UNFETCHED));
     }
 }

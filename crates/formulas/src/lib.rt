@@ -1,31 +1,19 @@
 // The paper's formulas: the bound of a fact, a policy's lines each, and the floor of M(l).
 #![tactic(auto)]
 
-ghost use Rattle.std.specs.Prelude.{◌≡◌, ◌+◌, ◌-◌, ◌≤◌, min};
+ghost use Rattle.std.specs.Prelude.{◌≡◌, ◌+◌, ◌≤◌, min};
 ghost use Rattle.paper.specs.Bounds as Bounds;
 ghost use Rattle.paper.specs.Ceilings as Ceilings;
 ghost use Rattle.formulas.specs.Largest as Largest;
 
 use paper::Trailer;
 
-pub fn lesser(x: u64, y: u64) -> u64
-    ensures { result ≡ min x y }
-{
-    if x < y { x } else { y }
-}
-
 // "the lesser of E + p and N"
 pub fn entered(e: u64, interruptions: u16, n: u64) -> u64
     requires { e ≤ Ceilings.most_count }
     ensures { result ≡ min (e + interruptions) n }
 {
-    lesser(e + interruptions as u64, n)
-}
-
-fn less(x: u64, y: u64) -> u64
-    ensures { result ≡ x - y }
-{
-    if x < y { 0 } else { x - y }
+    n.min(e + interruptions as u64)
 }
 
 // "g = ceil(k/(l-1))"
@@ -50,7 +38,7 @@ fn fifo_bound(k: u64, l: u64, e: u64, n: u64) -> u64
     if l < 2 {
         return e;
     }
-    e + less(n, e) / ratio(k, l)
+    e + n.saturating_sub(e) / ratio(k, l)
 }
 
 // "NMRU, l = 1: E"; "the bound for l = 2 is E, and the factor l starts at 3"
@@ -63,7 +51,7 @@ fn nmru_bound(k: u64, l: u64, e: u64, n: u64) -> u64
     if l < 3 {
         return e;
     }
-    lesser(n, l * e)
+    n.min(l * e)
 }
 
 // "A fact whose limit is at most 1 + log2 k has bound E"; "a larger limit gets N": l is at most 1 + log2 k where 2^l is below 4k.
@@ -87,16 +75,12 @@ pub fn bound_of(policy: u8, k: u64, l: u64, e: u64, n: u64) -> u64
     requires n_bound { n ≤ Largest.largest_visits }
     ensures { result ≡ Bounds.bound_of policy k l e n }
 {
-    if policy == paper::LRU {
-        return e;
+    match policy {
+        paper::LRU => e,
+        paper::FIFO => fifo_bound(k, l, e, n),
+        paper::NMRU => nmru_bound(k, l, e, n),
+        _ => tree_bound(k, l, e, n),
     }
-    if policy == paper::FIFO {
-        return fifo_bound(k, l, e, n);
-    }
-    if policy == paper::NMRU {
-        return nmru_bound(k, l, e, n);
-    }
-    tree_bound(k, l, e, n)
 }
 
 // "floor(k·M(l)/(k-l+1))"

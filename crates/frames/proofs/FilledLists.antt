@@ -1,26 +1,37 @@
 -- A loop that fills a list from its start to its end leaves the table of what it wrote; and it may read from a part of the bytes.
-use Prim.Native.Nat.{ℕ, ◌+◌, ◌-◌, ◌≤◌, ◌<◌}
+use Prim.Native.Nat.{ℕ, suc, ◌+◌, ◌-◌, ◌<◌}
 use native.Mathlib.Omega.{arith}
-use mathlib.Core.Path.{◌≡◌, refl, ◌∙◌}
-use mathlib.Core.List.{List, append-nil}
-use lib.ListN.{length, take, drop, set, length-set, length-drop}
-use lib.Seq.{drop-length, take_all}
+use native.Mathlib.Numerals.{add-one}
+use mathlib.Core.Path.{◌≡◌, refl}
+use mathlib.Core.List.{List, [], ◌++◌, append-nil, append_assoc}
+use lib.ListN.{length, take, drop, set, length-set, length-drop, drop_of_length-le}
+use lib.Seq.{drop-cons, set_at, take_all}
 use Rattle.paper.specs.Lists.{table}
-use Rattle.paper.proofs.TableLaws.{Written, written_start, written_more, written_end}
+use Rattle.paper.proofs.TableLaws.{table_more, length_table}
 
--- the first k are written, and the list is as long as it was
-abbrev pub Filled : (ℕ → ℕ) → List ℕ → ℕ → List ℕ → Type 0
-Filled g old k l = (length l ≡ length old) × Written g (length old) old k l
+-- the first k are written, the others are as they were, and the list is as long as it was
+pub record Filled {N : Type 0} (g : ℕ → N) (old : List N) (k : ℕ) (l : List N) : Type 0 where
+  pub len : length l ≡ length old
+  pub list : l ≡ table g k ++ drop k old
 
-module _ {g : ℕ → ℕ} {old : List ℕ} where
+module _ {N : Type 0} {g : ℕ → N} {old : List N} where
   pub filled_start : Filled g old 0 old
-  filled_start = (refl, written_start _ _ _ (omega arith))
+  unfolding table
+  filled_start = record { len = refl; list = refl }
 
-  pub filled_more : {k x : ℕ} {l : List ℕ} → Filled g old k l → k < length l → x ≡ g k → Filled g old (k + 1) (set l k x)
-  filled_more f h e = (simp length-set f.0, written_more _ _ _ _ _ _ f.1 (omega (arith, f.0)) e)
+  pub filled_more : {k : ℕ} {l : List N} (x : N) → Filled g old k l → k < length l → x ≡ g k → Filled g old (k + 1) (set l k x)
+  filled_more {k} {l} x f h e =
+      let q : k < length old = omega (arith, f.len) in
+      record {
+        len = simp length-set f.len;
+        list = rw (f.list, e, add-one, table_more g k, drop-cons old k x q, append_assoc) (set_at (table g k) _ (drop (suc k) old) (g k) k (length_table g k));
+      }
 
-  pub filled_end : {k : ℕ} {l : List ℕ} → Filled g old k l → length l ≤ k → l ≡ table g (length old)
-  filled_end f h = written_end _ _ _ _ _ f.1 (omega (arith, f.0)) ∙ rw (drop-length, append-nil)
+  pub filled_end : {k : ℕ} {l : List N} → Filled g old k l → k ≡ length l → l ≡ table g (length old)
+  filled_end {k} {l} f h =
+      let e : k ≡ length old = omega (arith, f.len) in
+      let n : drop (length old) old ≡ [] = drop_of_length-le old {i = length old} (omega arith) in
+      rw (e, n, append-nil) at f.list
 
 -- what stands from n on, as a part of the list
 pub part_rest : (l : List ℕ) (n : ℕ) → take (length l - n) (drop n l) ≡ drop n l

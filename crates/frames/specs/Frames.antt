@@ -1,27 +1,9 @@
 -- docs/PIPE.md as definitions: what a request takes, what it asks for, and the bytes of the answer.
-use Rattle.std.specs.Prelude.{ℕ, ◌+◌, ◌*◌, ◌≤◌, cond, ◌≡◌, List, ◌++◌, eqb, length, take, drop}
+use Rattle.std.specs.Prelude.{ℕ, ◌+◌, ◌*◌, ◌≤◌, cond, ◌≡◌, List, ◌++◌, eqb, length, take, drop, Result, Option, Ok, Err, Some, None, replicate}
 use Rattle.paper.specs.declared.Refusal.{Refusal}
 use Rattle.paper.specs.declared.Outcome.{Outcome}
-use Rattle.paper.specs.declared.Outcome.TheVariants as Outcomes
 use Rattle.paper.specs.declared.StepAnswer.{StepAnswer}
-use Rattle.paper.specs.declared.BlockAnswer.{BlockAnswer}
-use Rattle.paper.specs.declared.BlockAnswer.TheVariants as BlockAnswers
-use Rattle.paper.specs.declared.SetAnswer.{SetAnswer}
-use Rattle.paper.specs.declared.SetAnswer.TheVariants as SetAnswers
-use Rattle.paper.specs.declared.TraceAnswer.{TraceAnswer}
-use Rattle.paper.specs.declared.TraceAnswer.TheVariants as TraceAnswers
-use Rattle.paper.specs.declared.WriteAnswer.{WriteAnswer}
-use Rattle.paper.specs.declared.WriteAnswer.TheVariants as WriteAnswers
-use Rattle.paper.specs.declared.FindAnswer.{FindAnswer}
-use Rattle.paper.specs.declared.FindAnswer.TheVariants as FindAnswers
-use Rattle.paper.specs.declared.SalvageAnswer.{SalvageAnswer}
-use Rattle.paper.specs.declared.SalvageAnswer.TheVariants as SalvageAnswers
-use Rattle.paper.specs.declared.WaysAnswer.{WaysAnswer}
-use Rattle.paper.specs.declared.TimeAnswer.{TimeAnswer}
-use Rattle.paper.specs.declared.TimeAnswer.TheVariants as TimeAnswers
-use Rattle.paper.specs.declared.Verdict.{Verdict}
-use Rattle.paper.specs.declared.Verdict.TheVariants as Verdicts
-use Rattle.paper.specs.Answers.{refuse, told_find}
+use Rattle.paper.specs.Answers.{Verdict, refuse, told_find}
 use Rattle.paper.specs.Files.{u8_at, u16_at, u32_at}
 use Rattle.paper.specs.Records.{size_of}
 use Rattle.paper.specs.Operations.{step_answer, block_answer, set_answer}
@@ -36,6 +18,10 @@ use Rattle.frames.specs.declared.Head.{Head}
 use Rattle.frames.specs.declared.SalvageHead.{SalvageHead}
 use Rattle.frames.specs.Little.{little, littles, u16s, u32s, u64s}
 use Rattle.frames.specs.Places as Places
+use Rattle.paper.specs.declared.Block.{Block}
+use Rattle.paper.specs.declared.SetNumber.{SetNumber}
+use Rattle.paper.specs.declared.Salvage.{Salvage}
+use Rattle.paper.specs.declared.Outcome.TheVariants.{Hit, Miss}
 
 -- "the operation's byte, the refusal's number u8 (0: not refused), the refusal's place u64 and its second place u64 (both 0 where not refused), and then": every answer's head
 unfoldable pub head : ℕ → Refusal → List ℕ
@@ -52,57 +38,57 @@ abbrev pub refused_with : Refusal → ℕ → Head
 refused_with r value = record { refusal = r; value = value }
 
 -- "0 for a hit, 1 for a miss, 2 for a refusal"
-abbrev pub step_head : Outcome → Head
-step_head Outcomes.Hit = found 0
-step_head Outcomes.Miss = found 1
-step_head (Outcomes.Refused r) = refused_with r 2
+abbrev pub step_head : Result Outcome Refusal → Head
+step_head (Ok Hit) = found 0
+step_head (Ok Miss) = found 1
+step_head (Err r) = refused_with r 2
 
 -- "the block u16 (refused: 0)"
-abbrev pub block_head : BlockAnswer → Head
-block_head (BlockAnswers.Found b) = found b.0
-block_head (BlockAnswers.Refused r) = refused_with r 0
+abbrev pub block_head : Result Block Refusal → Head
+block_head (Ok b) = found b.0
+block_head (Err r) = refused_with r 0
 
 -- "the set u8 (refused: 0)"
-abbrev pub set_head : SetAnswer → Head
-set_head (SetAnswers.Found q) = found q.0
-set_head (SetAnswers.Refused r) = refused_with r 0
+abbrev pub set_head : Result SetNumber Refusal → Head
+set_head (Ok q) = found q.0
+set_head (Err r) = refused_with r 0
 
 -- "the misses u64 (refused: 0)"
-abbrev pub trace_head : TraceAnswer → Head
-trace_head (TraceAnswers.Misses n) = found n
-trace_head (TraceAnswers.Refused r) = refused_with r 0
+abbrev pub trace_head : Result ℕ Refusal → Head
+trace_head (Ok n) = found n
+trace_head (Err r) = refused_with r 0
 
 abbrev pub check_head : Verdict → Head
-check_head Verdicts.Accepted = found 0
-check_head (Verdicts.Refused r) = refused_with r 0
+check_head (Ok tt) = found 0
+check_head (Err r) = refused_with r 0
 
 -- "the file's length u64 (refused: 0)"
-abbrev pub write_head : WriteAnswer → Head
-write_head (WriteAnswers.Written n) = found n
-write_head (WriteAnswers.Refused r) = refused_with r 0
+abbrev pub write_head : Result ℕ Refusal → Head
+write_head (Ok n) = found n
+write_head (Err r) = refused_with r 0
 
 -- "the limit u16 (none, and refused: 0)"
-abbrev pub find_head : FindAnswer → Head
-find_head (FindAnswers.Found l) = found l
-find_head FindAnswers.None = found 0
-find_head (FindAnswers.Refused r) = refused_with r 0
+abbrev pub find_head : Result (Option ℕ) Refusal → Head
+find_head (Ok (Some l)) = found l
+find_head (Ok None) = found 0
+find_head (Err r) = refused_with r 0
 
 -- "the rest's length u64, the number of dropped facts u64 (refused: 0 and 0)"
-abbrev pub salvage_head : SalvageAnswer → SalvageHead
-salvage_head (SalvageAnswers.Salvaged s) = record { head = found s.length; count = s.dropped }
-salvage_head (SalvageAnswers.Refused r) = record { head = refused_with r 0; count = 0 }
+abbrev pub salvage_head : Result Salvage Refusal → SalvageHead
+salvage_head (Ok s) = record { head = found s.length; count = s.dropped }
+salvage_head (Err r) = record { head = refused_with r 0; count = 0 }
 
-abbrev pub step_of : Outcome → List ℕ → ℕ → StepAnswer
+abbrev pub step_of : Result Outcome Refusal → List ℕ → ℕ → StepAnswer
 step_of outcome lines bits = record { state = record { lines = lines; bits = bits }; outcome = outcome }
 
 -- "…; eight lines u16 each; bits u8"
 unfoldable pub step_frame : StepAnswer → List ℕ
 step_frame a = front 1 Places.outcome_width (step_head a.outcome) ++ (littles 2 a.state.lines ++ little 1 a.state.bits)
 
-abbrev pub block_frame : BlockAnswer → List ℕ
+abbrev pub block_frame : Result Block Refusal → List ℕ
 block_frame a = front 2 Places.block_width (block_head a)
 
-abbrev pub set_frame : SetAnswer → List ℕ
+abbrev pub set_frame : Result SetNumber Refusal → List ℕ
 set_frame a = front 3 Places.set_width (set_head a)
 
 -- "…; the m bytes of lent memory afterwards"
@@ -115,7 +101,7 @@ check_frame v numbers = front 5 0 (check_head v) ++ littles 8 numbers
 
 -- What a writer answers and leaves in the bytes that it was lent.
 pub record Wrote : Type 0 where
-  pub answer : WriteAnswer
+  pub answer : Result ℕ Refusal
   pub after : List ℕ
 
 unfoldable pub wrote : FileContent → List ℕ → Wrote
@@ -126,12 +112,12 @@ abbrev pub write_frame : Wrote → List ℕ
 write_frame w = front 6 Places.length_width (write_head w.answer) ++ w.after
 
 -- "…; the m numbers of lent memory afterwards, u16 each"
-abbrev pub find_frame : FindAnswer → List ℕ → List ℕ
+abbrev pub find_frame : Result (Option ℕ) Refusal → List ℕ → List ℕ
 find_frame a rows = front 7 Places.limit_width (find_head a) ++ littles 2 rows
 
 -- What a salvage answers and leaves in the bytes and in the numbers that it was lent.
 pub record SalvageLeft : Type 0 where
-  pub answer : SalvageAnswer
+  pub answer : Result Salvage Refusal
   pub out : List ℕ
   pub list : List ℕ
 
@@ -156,11 +142,11 @@ module _ (r : List ℕ) where
       (record { 0 = u16_at r Places.step_block })
 
   -- "address u32, line size u32"
-  unfoldable pub block_asked : BlockAnswer
+  unfoldable pub block_asked : Result Block Refusal
   block_asked = block_answer (record { 0 = u32_at r 0 }) (u32_at r Places.block_line_size)
 
   -- "block u16, sets u8"
-  unfoldable pub set_asked : SetAnswer
+  unfoldable pub set_asked : Result SetNumber Refusal
   set_asked = set_answer (record { 0 = u16_at r 0 }) (u8_at r Places.set_sets)
 
   module _ (lent : List ℕ) where
@@ -191,7 +177,7 @@ module _ (r : List ℕ) where
     rows_lent = u16s (drop (u32_at r Places.find_file) lent) (u32_at r Places.find_numbers)
 
     -- A finder's answer and the rows that it leaves are promised by a relation: these two are what is asked for. (They are the only two: `find_asked_once` in crates/answers.)
-    abbrev pub FindAsked : FindAnswer → List ℕ → Type 0
+    abbrev pub FindAsked : Result (Option ℕ) Refusal → List ℕ → Type 0
     FindAsked answer after = FindOutcome file_searched (u16_at r 0) (u16_at r Places.find_block) rows_lent (told_find answer) after
 
     -- "file bytes n u32, lent bytes m u32, numbers d u32, then n bytes, then m bytes, then d numbers u64 each"
@@ -277,32 +263,33 @@ pub record Answered (frame : List ℕ) (at : ℕ) (left : List ℕ) : Type 0 whe
 
 -- The answer of a finder: there are an answer and rows that are asked for, and their frame is in the lent bytes.
 pub record FindAnswered (r lent : List ℕ) (at : ℕ) (left : List ℕ) : Type 0 where
-  pub answer : FindAnswer
+  pub answer : Result (Option ℕ) Refusal
   pub rows : List ℕ
   pub asked : FindAsked r lent answer rows
   pub answered : Answered (find_frame answer rows) at left
 
 -- "sets u8, accesses n u32, then n blocks u16 each"
-unfoldable pub ways_asked : List ℕ → List ℕ → WaysAnswer
+unfoldable pub ways_asked : List ℕ → List ℕ → Result (List ℕ) Refusal
 ways_asked r lent = all_ways (u8_at r 0) (u16s lent (u32_at r Places.ways_accesses))
 
-abbrev pub ways_of : Verdict → List ℕ → WaysAnswer
-ways_of v counts = record { counts = counts; verdict = v }
-
 -- "eight counts u64 each (refused: 0)": after a head that has no value, as a check's
-unfoldable pub ways_frame : WaysAnswer → List ℕ
-ways_frame a = front 9 0 (check_head a.verdict) ++ littles 8 a.counts
+unfoldable pub ways_text : Head → List ℕ → List ℕ
+ways_text h counts = front 9 0 h ++ littles 8 counts
+
+abbrev pub ways_frame : Result (List ℕ) Refusal → List ℕ
+ways_frame (Ok counts) = ways_text (found 0) counts
+ways_frame (Err r) = ways_text (refused_with r 0) (replicate 8 0)
 
 -- "the time u64 (refused: 0)"
-abbrev pub time_head : TimeAnswer → Head
-time_head (TimeAnswers.Time n) = found n
-time_head (TimeAnswers.Refused r) = refused_with r 0
+abbrev pub time_head : Result ℕ Refusal → Head
+time_head (Ok n) = found n
+time_head (Err r) = refused_with r 0
 
-abbrev pub time_frame : TimeAnswer → List ℕ
+abbrev pub time_frame : Result ℕ Refusal → List ℕ
 time_frame a = front 10 Places.time_width (time_head a)
 
 -- "interruptions u16, penalty u32, file bytes n u32, costs c u32, then n bytes, then c costs u32 each"
-unfoldable pub time_asked : List ℕ → List ℕ → TimeAnswer
+unfoldable pub time_asked : List ℕ → List ℕ → Result ℕ Refusal
 time_asked r lent =
     let n = u32_at r Places.time_file in
     file_time_answer (take n lent) (u32s (drop n lent) (u32_at r Places.time_costs)) (u32_at r Places.time_penalty) (u16_at r 0)

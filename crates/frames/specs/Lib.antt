@@ -1,3 +1,4 @@
+pub mod Operations
 pub mod Places
 pub mod Room
 pub mod Little

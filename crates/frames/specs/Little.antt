@@ -1,5 +1,5 @@
 -- docs/PIPE.md: "All numbers are little-endian."
-use Rattle.std.specs.Prelude.{ℕ, zero, suc, ◌+◌, ◌*◌, ◌/◌, ◌%◌, List, [], ◌∷◌, ◌++◌}
+use Rattle.std.specs.Prelude.{ℕ, zero, suc, ◌+◌, ◌*◌, ◌/◌, ◌%◌, ◌≡◌, refl, List, [], ◌∷◌, ◌++◌}
 use Rattle.paper.specs.Lists.{table}
 use Rattle.paper.specs.Files.{u16_at, u32_at}
 
@@ -12,6 +12,15 @@ little (suc width) x = x % 256 ∷ little width (x / 256)
 unfoldable pub littles : ℕ → List ℕ → List ℕ
 littles width [] = []
 littles width (x ∷ xs) = little width x ++ littles width xs
+
+-- What holds of each kind of number: several of them are the bytes of one after another.
+pub record NumberLaws {N : Type 0} (width : ℕ) (value_of : N → ℕ) (bytes_of : List N → List ℕ) : Type 0 where
+  pub none : bytes_of [] ≡ []
+  pub more : (x : N) (xs : List N) → bytes_of (x ∷ xs) ≡ little width (value_of x) ++ bytes_of xs
+
+pub littles_laws : (width : ℕ) → NumberLaws width (λ (x : ℕ). x) (littles width)
+unfolding littles
+littles_laws width = record { none = refl; more = λ x xs. refl }
 
 abbrev pub u64_at : List ℕ → ℕ → ℕ
 u64_at l p = u32_at l p + 4294967296 * u32_at l (p + 4)

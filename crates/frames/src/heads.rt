@@ -3,12 +3,9 @@ ghost use Rattle.std.specs.Prelude.{◌≡◌};
 ghost use Rattle.frames.specs.Frames as Frames;
 
 use crate::{Head, SalvageHead};
-use paper::{
-    BlockAnswer, FindAnswer, Outcome, Refusal, SalvageAnswer, SetAnswer, TimeAnswer, TraceAnswer,
-    Verdict, WriteAnswer,
-};
+use paper::{Block, Outcome, Refusal, Salvage, SetNumber};
 
-fn found(value: u64) -> Head
+pub fn found(value: u64) -> Head
     ensures { result ≡ Frames.found value }
 {
     Head {
@@ -17,7 +14,7 @@ fn found(value: u64) -> Head
     }
 }
 
-fn refused(refusal: Refusal, value: u64) -> Head
+pub fn refused(refusal: Refusal, value: u64) -> Head
     ensures { result ≡ Frames.refused_with refusal value }
 {
     Head {
@@ -26,91 +23,91 @@ fn refused(refusal: Refusal, value: u64) -> Head
     }
 }
 
-pub fn step(outcome: Outcome) -> Head
+pub fn step(outcome: Result<Outcome, Refusal>) -> Head
     ensures { result ≡ Frames.step_head outcome }
 {
     match outcome {
-        Outcome::Hit => found(0),
-        Outcome::Miss => found(1),
-        Outcome::Refused(r) => refused(r, 2),
+        Ok(Outcome::Hit) => found(0),
+        Ok(Outcome::Miss) => found(1),
+        Err(r) => refused(r, 2),
     }
 }
 
-pub fn block(answer: BlockAnswer) -> Head
+pub fn block(answer: Result<Block, Refusal>) -> Head
     ensures { result ≡ Frames.block_head answer }
 {
     match answer {
-        BlockAnswer::Found(b) => found(b.0 as u64),
-        BlockAnswer::Refused(r) => refused(r, 0),
+        Ok(b) => found(b.0 as u64),
+        Err(r) => refused(r, 0),
     }
 }
 
-pub fn set(answer: SetAnswer) -> Head
+pub fn set(answer: Result<SetNumber, Refusal>) -> Head
     ensures { result ≡ Frames.set_head answer }
 {
     match answer {
-        SetAnswer::Found(q) => found(q.0 as u64),
-        SetAnswer::Refused(r) => refused(r, 0),
+        Ok(q) => found(q.0 as u64),
+        Err(r) => refused(r, 0),
     }
 }
 
-pub fn trace(answer: TraceAnswer) -> Head
+pub fn trace(answer: Result<usize, Refusal>) -> Head
     ensures { result ≡ Frames.trace_head answer }
 {
     match answer {
-        TraceAnswer::Misses(misses) => found(misses as u64),
-        TraceAnswer::Refused(r) => refused(r, 0),
+        Ok(misses) => found(misses as u64),
+        Err(r) => refused(r, 0),
     }
 }
 
-pub fn check(verdict: Verdict) -> Head
+pub fn check(verdict: Result<(), Refusal>) -> Head
     ensures { result ≡ Frames.check_head verdict }
 {
     match verdict {
-        Verdict::Accepted => found(0),
-        Verdict::Refused(r) => refused(r, 0),
+        Ok(()) => found(0),
+        Err(r) => refused(r, 0),
     }
 }
 
-pub fn write(answer: WriteAnswer) -> Head
+pub fn write(answer: Result<usize, Refusal>) -> Head
     ensures { result ≡ Frames.write_head answer }
 {
     match answer {
-        WriteAnswer::Written(length) => found(length as u64),
-        WriteAnswer::Refused(r) => refused(r, 0),
+        Ok(length) => found(length as u64),
+        Err(unfit) => refused(unfit, 0),
     }
 }
 
-pub fn find(answer: FindAnswer) -> Head
+pub fn find(answer: Result<Option<u16>, Refusal>) -> Head
     ensures { result ≡ Frames.find_head answer }
 {
     match answer {
-        FindAnswer::Found(limit) => found(limit as u64),
-        FindAnswer::None => found(0),
-        FindAnswer::Refused(r) => refused(r, 0),
+        Ok(Some(limit)) => found(limit as u64),
+        Ok(None) => found(0),
+        Err(unsound) => refused(unsound, 0),
     }
 }
 
-pub fn salvage(answer: SalvageAnswer) -> SalvageHead
+pub fn salvage(answer: Result<Salvage, Refusal>) -> SalvageHead
     ensures { result ≡ Frames.salvage_head answer }
 {
     match answer {
-        SalvageAnswer::Salvaged(rest) => SalvageHead {
+        Ok(rest) => SalvageHead {
             head: found(rest.length as u64),
             count: rest.dropped as u64,
         },
-        SalvageAnswer::Refused(r) => SalvageHead {
+        Err(r) => SalvageHead {
             head: refused(r, 0),
             count: 0,
         },
     }
 }
 
-pub fn time(answer: TimeAnswer) -> Head
+pub fn time(answer: Result<u64, Refusal>) -> Head
     ensures { result ≡ Frames.time_head answer }
 {
     match answer {
-        TimeAnswer::Time(cycles) => found(cycles),
-        TimeAnswer::Refused(r) => refused(r, 0),
+        Ok(cycles) => found(cycles),
+        Err(bad) => refused(bad, 0),
     }
 }

@@ -1,7 +1,97 @@
 // Little-endian numbers, read from bytes and put into bytes.
-ghost use Rattle.std.specs.Prelude.{◌≡◌, ◌+◌, ◌*◌, ◌≤◌, length, drop};
+ghost use Rattle.std.specs.Prelude.{◌≡◌, ◌+◌, ◌*◌, ◌≤◌, ℕ, List, length, drop};
+ghost use Rattle.paper.specs.Lists.{table};
+ghost use Rattle.paper.specs.Files.{u16_at, u32_at};
 ghost use Rattle.puts.specs.Put.{Put};
-ghost use Rattle.frames.specs.Little.{little, littles, u64_at, u16s, u32s, u64s};
+ghost use Rattle.frames.specs.Little.{little, littles, littles_laws, NumberLaws, u64_at};
+
+// A kind of number of a request or an answer: how many bytes it takes, which number stands in the bytes at a place, and the bytes of several, one after another.
+pub trait Number: Copy {
+    ghost WIDTH: { ℕ };
+
+    ghost number_at: { List ℕ → ℕ → Self };
+
+    ghost value_of: { Self → ℕ };
+
+    ghost bytes_of: { List Self → List ℕ };
+
+    const WIDTH: usize;
+
+    fn read(bytes: &[u8], at: usize) -> Self
+        requires { at + WIDTH ≤ length bytes.now }
+        ensures { result ≡ number_at bytes.now at };
+
+    fn value(self) -> u64
+        ensures { result ≡ value_of self };
+
+    ghost laws: { NumberLaws WIDTH value_of bytes_of };
+}
+
+impl Number for u16 {
+    ghost WIDTH = { 2 };
+
+    ghost number_at = { u16_at };
+
+    ghost value_of = { λ x. x };
+
+    ghost bytes_of = { littles 2 };
+
+    ghost laws = { littles_laws 2 };
+
+    const WIDTH: usize = 2;
+
+    fn read(bytes: &[u8], at: usize) -> u16 {
+        layout::u16_at(bytes, at)
+    }
+
+    fn value(self) -> u64 {
+        self as u64
+    }
+}
+
+impl Number for u32 {
+    ghost WIDTH = { 4 };
+
+    ghost number_at = { u32_at };
+
+    ghost value_of = { λ x. x };
+
+    ghost bytes_of = { littles 4 };
+
+    ghost laws = { littles_laws 4 };
+
+    const WIDTH: usize = 4;
+
+    fn read(bytes: &[u8], at: usize) -> u32 {
+        layout::u32_at(bytes, at)
+    }
+
+    fn value(self) -> u64 {
+        self as u64
+    }
+}
+
+impl Number for u64 {
+    ghost WIDTH = { 8 };
+
+    ghost number_at = { u64_at };
+
+    ghost value_of = { λ x. x };
+
+    ghost bytes_of = { littles 8 };
+
+    ghost laws = { littles_laws 8 };
+
+    const WIDTH: usize = 8;
+
+    fn read(bytes: &[u8], at: usize) -> u64 {
+        u64_at(bytes, at)
+    }
+
+    fn value(self) -> u64 {
+        self
+    }
+}
 
 // Puts the low bytes of a number, width of them, at a place, and answers the place after them.
 pub fn put(out: &mut [u8], at: usize, width: usize, x: u64) -> usize
@@ -9,24 +99,14 @@ pub fn put(out: &mut [u8], at: usize, width: usize, x: u64) -> usize
     ensures put { Put out.old at (little width x) result out.new }
     ensures value { result ≡ at + width }
 {
-    let mut to = at;
+    let end = at + width;
+    // Byte by byte, not a part of `to_le_bytes`: the width may be more than the eight bytes that it has.
     let mut rest = x;
-    let mut left = width;
-    while left > 0 {
+    for to in at..end {
         out[to] = (rest % 256) as u8;
         rest /= 256;
-        to += 1;
-        left -= 1;
     }
-    to
-}
-
-fn put_u16(out: &mut [u8], at: usize, x: u16) -> usize
-    requires { at + 2 ≤ length out.old }
-    ensures put { Put out.old at (little 2 x) result out.new }
-    ensures value { result ≡ at + 2 }
-{
-    put(out, at, 2, x as u64)
+    end
 }
 
 pub fn u64_at(bytes: &[u8], p: usize) -> u64
@@ -38,89 +118,36 @@ pub fn u64_at(bytes: &[u8], p: usize) -> u64
     low + 4294967296 * high
 }
 
-// Fills a list of blocks from the bytes.
-pub fn read_blocks(bytes: &[u8], blocks: &mut [u16])
-    requires { 2 * length blocks.old ≤ length bytes.now }
-    ensures { blocks.new ≡ u16s bytes.now (length blocks.old) }
+// Fills a list of numbers from the bytes.
+pub fn read_list<N: Number>(bytes: &[u8], numbers: &mut [N])
+    requires { N.WIDTH * length numbers.old ≤ length bytes.now }
+    ensures { numbers.new ≡ table (λ i. N.number_at bytes.now (N.WIDTH * i)) (length numbers.old) }
 {
-    let mut i = 0;
-    while i < blocks.len() {
-        blocks[i] = layout::u16_at(bytes, 2 * i);
-        i += 1;
-    }
-}
-
-// Fills a list of numbers of four bytes from the bytes.
-fn read_longs(bytes: &[u8], longs: &mut [u32])
-    requires { 4 * length longs.old ≤ length bytes.now }
-    ensures { longs.new ≡ u32s bytes.now (length longs.old) }
-{
-    let mut i = 0;
-    while i < longs.len() {
-        longs[i] = layout::u32_at(bytes, 4 * i);
-        i += 1;
+    for (i, number) in numbers.iter_mut().enumerate() {
+        *number = N::read(bytes, N::WIDTH * i);
     }
 }
 
 // The same from a place on, and the place after them.
-pub fn read_blocks_at(bytes: &[u8], at: usize, blocks: &mut [u16]) -> usize
-    requires { at + 2 * length blocks.old ≤ length bytes.now }
-    ensures blocks_after { blocks.new ≡ u16s (drop at bytes.now) (length blocks.old) }
-    ensures value { result ≡ at + 2 * length blocks.old }
+pub fn read_list_at<N: Number>(bytes: &[u8], at: usize, numbers: &mut [N]) -> usize
+    requires { at + N.WIDTH * length numbers.old ≤ length bytes.now }
+    ensures numbers_after { numbers.new ≡ table (λ i. N.number_at (drop at bytes.now) (N.WIDTH * i)) (length numbers.old) }
+    ensures value { result ≡ at + N.WIDTH * length numbers.old }
 {
-    let to = at + 2 * blocks.len();
-    read_blocks(&bytes[at..], blocks);
-    to
-}
-
-pub fn read_longs_at(bytes: &[u8], at: usize, longs: &mut [u32]) -> usize
-    requires { at + 4 * length longs.old ≤ length bytes.now }
-    ensures longs_after { longs.new ≡ u32s (drop at bytes.now) (length longs.old) }
-    ensures value { result ≡ at + 4 * length longs.old }
-{
-    let to = at + 4 * longs.len();
-    read_longs(&bytes[at..], longs);
-    to
-}
-
-// Fills a list of numbers from the bytes.
-pub fn read_numbers(bytes: &[u8], numbers: &mut [u64])
-    requires { 8 * length numbers.old ≤ length bytes.now }
-    ensures { numbers.new ≡ u64s bytes.now (length numbers.old) }
-{
-    let mut i = 0;
-    while i < numbers.len() {
-        numbers[i] = u64_at(bytes, 8 * i);
-        i += 1;
-    }
-}
-
-// Puts a list of blocks at a place, and answers the place after them.
-pub fn put_blocks(out: &mut [u8], at: usize, blocks: &[u16]) -> usize
-    requires { at + 2 * length blocks.now ≤ length out.old }
-    ensures put { Put out.old at (littles 2 blocks.now) result out.new }
-    ensures value { result ≡ at + 2 * length blocks.now }
-{
-    let mut to = at;
-    let mut i = 0;
-    while i < blocks.len() {
-        to = put_u16(out, to, blocks[i]);
-        i += 1;
-    }
+    let to = at + N::WIDTH * numbers.len();
+    read_list(&bytes[at..], numbers);
     to
 }
 
 // Puts a list of numbers at a place, and answers the place after them.
-pub fn put_numbers(out: &mut [u8], at: usize, numbers: &[u64]) -> usize
-    requires { at + 8 * length numbers.now ≤ length out.old }
-    ensures put { Put out.old at (littles 8 numbers.now) result out.new }
-    ensures value { result ≡ at + 8 * length numbers.now }
+pub fn put_list<N: Number>(out: &mut [u8], at: usize, numbers: &[N]) -> usize
+    requires { at + N.WIDTH * length numbers.now ≤ length out.old }
+    ensures put { Put out.old at (N.bytes_of numbers.now) result out.new }
+    ensures value { result ≡ at + N.WIDTH * length numbers.now }
 {
     let mut to = at;
-    let mut i = 0;
-    while i < numbers.len() {
-        to = put(out, to, 8, numbers[i]);
-        i += 1;
+    for number in numbers {
+        to = put(out, to, N::WIDTH, number.value());
     }
     to
 }

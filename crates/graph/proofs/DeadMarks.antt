@@ -11,12 +11,15 @@ use lib.Dec.{eqb}
 use lib.Bits.{bit_or}
 use lib.ListN.{length, get_or, set, length-set}
 use lib.Seq.{get_or-set_same, get_or-set_other}
+use Rattle.std.proofs.Common.{Option}
 use Rattle.paper.specs.Lists.{bit, least, some}
 use Rattle.paper.specs.Cases.{Case}
 use Rattle.paper.specs.Graphs.{bad_entry, bad_return, reached, dead}
 use Rattle.paper.specs.Known.{Shaped}
 use Rattle.paper.proofs.Least.{least_same, none_some}
 use Rattle.paper.proofs.Says.{says_bool, says_or, says_is, says_false, says_same}
+use Rattle.layout.specs.Firsts.{first}
+use Rattle.layout.proofs.FirstLaws.{first_same}
 use Rattle.graph.specs.Filled.{Filled, Holds}
 use Rattle.graph.specs.Reaching.{reached_to}
 use Rattle.graph.proofs.Reaching.{turn_says, first_says, reached_marks}
@@ -70,7 +73,7 @@ module _ (e : Case) (table : List ℕ) where
               ];
         }
 
--- the least 0 of the table is the least dead node
+-- The least 0 of the table is the least dead node; so it is as an option, where there may be none.
 pub least_dead : (e : Case) → Shaped e → some (bad_entry e) e.edges ≡ false → some (bad_return e) e.edges ≡ false → (table : List ℕ) → Marks e e.edges table →
     (i : ℕ) → i ≡ least (λ v. eqb (get_or table v 0) 0) e.nodes → i ≡ least (dead e) e.nodes
 unfolding dead
@@ -80,3 +83,8 @@ least_dead e shape entries returns table w i p =
     unmarked : (b : Bool) → eqb (bit b) 0 ≡ not b
     unmarked true = refl
     unmarked false = refl
+
+pub first_dead_is : (e : Case) → Shaped e → some (bad_entry e) e.edges ≡ false → some (bad_return e) e.edges ≡ false → (table : List ℕ) → Marks e e.edges table →
+    (r : Option ℕ) → r ≡ first (λ v. eqb (get_or table v 0) 0) e.nodes → r ≡ first (dead e) e.nodes
+first_dead_is e shape entries returns table w r p =
+    p ∙ first_same _ _ e.nodes (least_dead e shape entries returns table w _ refl)

@@ -6,7 +6,6 @@ use native.Mathlib.Decide.{ℕ_discrete}
 use mathlib.Core.Path.{◌≡◌, refl, ◌∙◌}
 use mathlib.Core.Bool.{Bool, cond, ◌&&◌}
 use mathlib.Core.List.{List}
-use borrow.Author.Tests.{ne_eqb}
 use lib.Dec.{ltb, leb}
 use lib.ListN.{get_or}
 use Rattle.paper.specs.declared.Trailer.{Trailer}
@@ -18,6 +17,8 @@ use Rattle.loops.specs.Counts.{no_loop, count_in}
 use Rattle.loops.specs.Handed.{Handed}
 use Rattle.loops.proofs.Handing.{handed_header}
 use Rattle.graph.specs.declared.marks.Mark.{Mark}
+use Rattle.graph.specs.declared.marks.Rule.{Rule}
+use Rattle.graph.specs.declared.marks.Rule.TheVariants.{Entry, Return, Count}
 use Rattle.graph.specs.Filled.{Filled, Holds}
 use Rattle.paper.specs.Known.{Shaped}
 use Rattle.graph.specs.Marks.{loop_mark, marks, marked_to}
@@ -74,30 +75,15 @@ marked_le m v (suc n) up j l p = go (at_says (m n) v) (marked_le m v n (λ i k a
     go (holds q) ih = elim (ℕ_discrete j n) [ yes e ↦ rw e (omega arith) | no k ↦ up j n (omega arith) (omega arith) p q ]
     go (fails q) ih = elim (ℕ_discrete j n) [ yes e ↦ absurd (q (rw e at p)) | no k ↦ ih (omega arith) p ]
 
-pub marked_same : (m k : ℕ → Mark) (start v : ℕ) → ((j : ℕ) → m j ≡ k j) → (n : ℕ) → marked_to m start v n ≡ marked_to k start v n
-unfolding marked_to
-marked_same m k start v e zero = refl
-marked_same m k start v e (suc n) = rw (e n, marked_same m k start v e n) refl
-
 -- a loop's mark lies within the nodes
-pub mark_fits : (e : Case) → Shaped e → (rule j : ℕ) (x : Mark) → j < e.loops → x ≡ marks e rule j → (x.from ≤ x.to) × (x.to ≤ e.nodes)
+pub mark_fits : (e : Case) → Shaped e → (rule : Rule) (j : ℕ) (x : Mark) → j < e.loops → x ≡ marks e rule j → (x.from ≤ x.to) × (x.to ≤ e.nodes)
 unfolding marks loop_mark
-mark_fits e w rule j x q p =
-    elim (ℕ_discrete rule 10) [
-      | yes h ↦ rw (p, h) (omega (arith, w.fits j q))
-      | no h ↦
-          elim (ℕ_discrete rule 9) [
-            | yes k ↦ rw (p, k) (omega (arith, w.fits j q))
-            | no k ↦ rw (p, ne_eqb rule 10 h, ne_eqb rule 9 k) (omega (arith, w.fits j q))
-          ]
-    ]
+mark_fits e w Entry j x q p = rw p (omega (arith, w.fits j q))
+mark_fits e w Return j x q p = rw p (omega (arith, w.fits j q))
+mark_fits e w Count j x q p = rw p (omega (arith, w.fits j q))
 
--- the mark that is made from the records, where n is the header's count if the rule asks for it
-pub handed_mark : (f : List ℕ) (trailer : Trailer) (loops : List Loop) (rule j n : ℕ) (x : Mark) → Handed f trailer loops → Shaped (case_of f trailer) → j < trailer.loops →
-    (rule ≡ 10 → n ≡ count_in loops (suc j) (get_or loops j no_loop).first) → x ≡ loop_mark rule (get_or loops j no_loop) n → x ≡ marks (case_of f trailer) rule j
-unfolding marks loop_mark case_of
-handed_mark f trailer loops rule j n x w s q h e =
-    elim (ℕ_discrete rule 10) [
-      | yes p ↦ e ∙ rw (h p, handed_header f trailer loops w s j q, w.at j q) refl
-      | no k ↦ e ∙ rw (ne_eqb rule 10 k, w.at j q) refl
-    ]
+-- the mark that is made from the records
+pub handed_mark : (f : List ℕ) (trailer : Trailer) (loops : List Loop) (rule : Rule) (j : ℕ) (x : Mark) → Handed f trailer loops → Shaped (case_of f trailer) → j < trailer.loops →
+    x ≡ loop_mark rule (get_or loops j no_loop) (count_in loops (suc j) (get_or loops j no_loop).first) → x ≡ marks (case_of f trailer) rule j
+unfolding marks case_of
+handed_mark f trailer loops rule j x w s q h = h ∙ rw (handed_header f trailer loops w s j q, w.at j q) refl

@@ -1,3 +1,4 @@
 pub mod Marks
 pub mod Filled
 pub mod Reaching
+pub mod Wide

@@ -1,7 +1,7 @@
 // Edges, loops, paths and counts: rules 6 to 10 and 26.
 #![tactic(auto)]
 
-ghost use Rattle.std.specs.Prelude.{◌≡◌, ◌≤◌, length};
+ghost use Rattle.std.specs.Prelude.{◌≡◌, ◌≤◌, length, Ok};
 ghost use Rattle.paper.specs.Ceilings.{most_nodes};
 ghost use Rattle.paper.specs.Files.{case_of};
 ghost use Rattle.paper.specs.Verdicts as Verdicts;
@@ -13,82 +13,81 @@ mod dead;
 mod edges;
 mod marks;
 mod nesting;
+mod shape;
 
 use counts::first_bad_count;
 use dead::first_dead;
 pub use edges::wrong_edge;
 use edges::{edge_rule, first_bad_edge};
+use marks::Rule;
 pub use marks::fill;
 use nesting::first_bad_loop;
-use paper::{Trailer, Verdict};
+use paper::{Refusal, Trailer};
+use shape::FileShape;
+pub use shape::{Shape, WideLoop};
 
 // 6 and 7: edges and loops by themselves.
-pub fn shape_rules(file: &[u8], trailer: Trailer) -> Verdict
-    requires { Laid file.now trailer }
-    ensures { result ≡ Verdicts.shape_rules (case_of file.now trailer) Verdict.Accepted }
+pub fn shape_rules_on<S: Shape>(shape: &S) -> Result<(), Refusal>
+    ensures { result ≡ Verdicts.shape_rules (S.told shape.now) (Ok tt) }
 {
-    let edge = first_bad_edge(file, trailer);
-    if edge < trailer.edges {
-        return Verdict::Refused(paper::refuse(6, edge as usize));
+    if let Some(edge) = first_bad_edge(shape) {
+        return Err(paper::refuse(6, edge as usize));
     }
-    let looped = first_bad_loop(file, trailer);
-    if looped < trailer.loops {
-        return Verdict::Refused(paper::refuse(7, looped as usize));
+    if let Some(looped) = first_bad_loop(shape) {
+        return Err(paper::refuse(7, looped as usize));
     }
-    Verdict::Accepted
+    Ok(())
+}
+
+// Those of a file.
+pub fn shape_rules(file: &[u8], trailer: Trailer) -> Result<(), Refusal>
+    requires { Laid file.now trailer }
+    ensures { result ≡ Verdicts.shape_rules (case_of file.now trailer) (Ok tt) }
+{
+    shape_rules_on(&FileShape { file, trailer })
 }
 
 // 8, 9 and 26: the ways into loops, back, and to each node. The table is overwritten.
-pub fn path_rules(file: &[u8], trailer: Trailer, table: &mut [u32]) -> Verdict
+pub fn path_rules(file: &[u8], trailer: Trailer, table: &mut [u32]) -> Result<(), Refusal>
     requires laid { Laid file.now trailer }
     requires shaped { Shaped (case_of file.now trailer) }
     requires most_nodes_in_bounds { most_nodes ≤ length table.old }
-    ensures { result ≡ Verdicts.path_rules (case_of file.now trailer) Verdict.Accepted }
+    ensures { result ≡ Verdicts.path_rules (case_of file.now trailer) (Ok tt) }
 {
-    let forward = edge_rule(file, trailer, table, 8);
-    if forward < trailer.edges {
-        return Verdict::Refused(paper::refuse(8, forward as usize));
+    if let Some(forward) = edge_rule(file, trailer, table, Rule::Entry) {
+        return Err(paper::refuse(8, forward as usize));
     }
-    let back = edge_rule(file, trailer, table, 9);
-    if back < trailer.edges {
-        return Verdict::Refused(paper::refuse(9, back as usize));
+    if let Some(back) = edge_rule(file, trailer, table, Rule::Return) {
+        return Err(paper::refuse(9, back as usize));
     }
-    let node = first_dead(file, trailer, table);
-    if node < trailer.nodes {
-        return Verdict::Refused(paper::refuse(26, node as usize));
+    if let Some(node) = first_dead(file, trailer, table) {
+        return Err(paper::refuse(26, node as usize));
     }
-    Verdict::Accepted
+    Ok(())
 }
 
 // 10: the counts, which the table holds afterwards.
-pub fn count_rules(file: &[u8], trailer: Trailer, counts: &mut [u32]) -> Verdict
+pub fn count_rules(file: &[u8], trailer: Trailer, counts: &mut [u32]) -> Result<(), Refusal>
     requires laid { Laid file.now trailer }
     requires shaped { Shaped (case_of file.now trailer) }
     requires most_nodes_in_bounds { most_nodes ≤ length counts.old }
-    ensures value { result ≡ Verdicts.count_rules (case_of file.now trailer) Verdict.Accepted }
-    ensures counted { result ≡ Verdict.Accepted → Counted file.now trailer counts.new }
+    ensures value { result ≡ Verdicts.count_rules (case_of file.now trailer) (Ok tt) }
+    ensures counted { result ≡ Ok tt → Counted file.now trailer counts.new }
 {
-    let node = first_bad_count(file, trailer, counts);
-    if node < trailer.nodes {
-        return Verdict::Refused(paper::refuse(10, node as usize));
+    if let Some(node) = first_bad_count(file, trailer, counts) {
+        return Err(paper::refuse(10, node as usize));
     }
-    Verdict::Accepted
+    Ok(())
 }
 
-pub fn graph_rules(file: &[u8], trailer: Trailer, counts: &mut [u32]) -> Verdict
+pub fn graph_rules(file: &[u8], trailer: Trailer, counts: &mut [u32]) -> Result<(), Refusal>
     requires laid { Laid file.now trailer }
     requires most_nodes_in_bounds { most_nodes ≤ length counts.old }
-    ensures value { result ≡ Verdicts.graph_rules (case_of file.now trailer) Verdict.Accepted }
+    ensures value { result ≡ Verdicts.graph_rules (case_of file.now trailer) (Ok tt) }
     ensures counts_len_unchanged { length counts.new ≡ length counts.old }
-    ensures counted { result ≡ Verdict.Accepted → Counted file.now trailer counts.new }
+    ensures counted { result ≡ Ok tt → Counted file.now trailer counts.new }
 {
-    let shape = shape_rules(file, trailer);
-    if let Verdict::Refused(r) = shape {
-        return Verdict::Refused(r);
-    }
-    let paths = path_rules(file, trailer, counts);
-    if let Verdict::Refused(r) = paths {
-        return Verdict::Refused(r);
-    }
+    shape_rules(file, trailer)?;
+    path_rules(file, trailer, counts)?;
     count_rules(file, trailer, counts)
 }

@@ -1,62 +1,56 @@
 // Rule 7: the loops, nested or apart.
 ghost use Rattle.std.specs.Prelude.{◌≡◌, ◌<◌};
-ghost use Rattle.paper.specs.Lists.{least};
+ghost use Rattle.paper.specs.Lists.{some};
+ghost use Rattle.layout.specs.Firsts.{first};
 ghost use Rattle.paper.specs.Graphs as Graphs;
-ghost use Rattle.paper.specs.Files.{loop_at, case_of};
-ghost use Rattle.paper.specs.Known.{Laid};
+ghost use Rattle.graph.specs.Wide.{as_loop};
 
-use paper::{Loop, Trailer};
+use crate::shape::{Shape, WideLoop};
+use paper::MOST_BOUND;
 
-fn crosses(a: Loop, b: Loop) -> bool
-    ensures { result ≡ Graphs.crosses a b }
+#[tactic(auto, unfolding(paper::specs::Graphs::crosses))]
+fn crosses(a: WideLoop, b: WideLoop) -> bool
+    ensures { result ≡ Graphs.crosses (as_loop a) (as_loop b) }
 {
     (b.first <= a.last) & (a.last < b.last)
 }
 
-// The first of the i loops before that l crosses, or i.
-fn crossed(file: &[u8], trailer: Trailer, i: u16, l: Loop) -> u16
-    requires laid { Laid file.now trailer }
-    requires i_lt_loops { i < trailer.loops }
-    ensures { result ≡ least (λ j. Graphs.crosses (loop_at file.now trailer j) l) i }
+// Whether l crosses one of the i loops before it.
+fn crossed<S: Shape>(shape: &S, i: u16, l: WideLoop) -> bool
+    requires { i < (S.told shape.now).loops }
+    ensures { result ≡ some (λ j. Graphs.crosses ((S.told shape.now).loop j) (as_loop l)) i }
 {
-    let mut j: u16 = 0;
-    while j < i {
-        if crosses(layout::loop_at(file, trailer, j), l) {
-            return j;
+    for j in 0..i {
+        if crosses(shape.loop_at(j), l) {
+            return true;
         }
-        j += 1;
     }
-    j
+    false
 }
 
 // Rule 7 for l, loop i; h is the header of the loop before.
-fn wrong_loop(file: &[u8], trailer: Trailer, i: u16, h: u16, l: Loop) -> bool
-    requires laid { Laid file.now trailer }
-    requires i_lt_loops { i < trailer.loops }
-    ensures { result ≡ Graphs.wrong_loop trailer.nodes (loop_at file.now trailer) i h l }
+fn wrong_loop<S: Shape>(shape: &S, i: u16, h: u32, l: WideLoop) -> bool
+    requires { i < (S.told shape.now).loops }
+    ensures { result ≡ Graphs.wrong_loop (S.told shape.now).nodes (S.told shape.now).loop i h (as_loop l) }
 {
     (l.last < l.first)
-        | ((trailer.nodes <= l.last)
+        | ((shape.nodes() as u32 <= l.last)
             | ((l.bound < 1)
-                | ((1000000 < l.bound)
-                    | ((l.visits < 1)
-                        | (((0 < i) & (l.first <= h)) | (crossed(file, trailer, i, l) < i))))))
+                | ((MOST_BOUND < l.bound)
+                    | ((l.visits < 1) | (((0 < i) & (l.first <= h)) | crossed(shape, i, l))))))
 }
 
-// The least loop that breaks rule 7, or their number.
-pub fn first_bad_loop(file: &[u8], trailer: Trailer) -> u16
-    requires { Laid file.now trailer }
-    ensures { result ≡ least (Graphs.bad_loop (case_of file.now trailer)) trailer.loops }
+// The least loop that breaks rule 7.
+pub fn first_bad_loop<S: Shape>(shape: &S) -> Option<u16>
+    ensures { result ≡ first (Graphs.bad_loop (S.told shape.now)) (S.told shape.now).loops }
 {
-    let mut i: u16 = 0;
-    let mut h: u16 = 0;
-    while i < trailer.loops {
-        let l = layout::loop_at(file, trailer, i);
-        if wrong_loop(file, trailer, i, h, l) {
-            return i;
+    let mut h: u32 = 0;
+    for i in 0..shape.loops() {
+        let l = shape.loop_at(i);
+        if wrong_loop(shape, i, h, l) {
+            return Some(i);
         }
         h = l.first;
-        i += 1;
     }
-    i
+    None
 }

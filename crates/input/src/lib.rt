@@ -15,6 +15,7 @@ pub fn fill<R: Read>(from: &mut R, into: &mut [u8]) -> io::Result<usize>
     ensures end { IfOk result (λ n. n < length into.new → IsAtEnd (R.remaining from.new)) }
 {
     let mut done = 0;
+    // `while`: a reader gives as many bytes at a time as it has.
     while done < into.len() {
         let n = from.read(&mut into[done..])?;
         if n == 0 {

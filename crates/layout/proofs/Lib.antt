@@ -1,3 +1,4 @@
 pub mod LoopPlaces
 pub mod Laws
 pub mod Pack
+pub mod FirstLaws

@@ -1,3 +1,4 @@
 pub mod Layouts
 pub mod Counted
 pub mod Packed
+pub mod Firsts

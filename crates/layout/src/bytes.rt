@@ -1,19 +1,14 @@
 // Bytes to numbers. "Little-endian."
+#![tactic(auto, unfolding(paper::specs::Files::u16_at, paper::specs::Files::u32_at))]
+
 ghost use Rattle.std.specs.Prelude.{◌≡◌, ◌+◌, ◌≤◌, length};
 ghost use Rattle.paper.specs.Files as Files;
-
-fn wide(x: u8) -> u16
-    ensures value { result ≡ x }
-    ensures upper_bound { result ≤ 255 }
-{
-    x as u16
-}
 
 pub fn u16_at(file: &[u8], p: usize) -> u16
     requires { p + 2 ≤ length file.now }
     ensures { result ≡ Files.u16_at file.now p }
 {
-    wide(file[p]) + 256 * wide(file[p + 1])
+    file[p] as u16 + 256 * (file[p + 1] as u16)
 }
 
 pub fn u32_at(file: &[u8], p: usize) -> u32

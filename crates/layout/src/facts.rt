@@ -46,6 +46,7 @@ pub fn slot_at(file: &[u8], p: usize, i: u16) -> u16
 }
 
 // Four numbers that stand side by side, as one: the compiler reads them at once.
+#[tactic(auto, using(crate::proofs::Pack::packed_four))]
 fn four_at(file: &[u8], p: usize) -> u64
     requires { p + 8 ≤ length file.now }
     ensures { result ≡ packed (word_at file.now p) 4 }

@@ -21,40 +21,18 @@ use places::{
     loops_at,
 };
 pub use places::{HEAD_SIZE, end_of, fact_end, facts_at, row_place, rows_size};
-pub use sections::{from_at, loop_at, node_at, range_at, to_at};
-
-// What a file's trailer says, or the first of the rules 1 to 5 that the file breaks.
-#[derive(Clone, Copy)]
-pub enum Layout {
-    Read(Trailer),
-    Refused(Refusal),
-}
-
-// "then the four letters QMBT": the first that is another, or 4.
-fn wrong_letter(file: &[u8]) -> usize
-    requires { Records.trailer_size ≤ length file.now }
-    ensures { result ≡ Lists.least (Files.bad_letter file.now) 4 }
-{
-    let letters = b"QMBT";
-    let end = end_of(file);
-    let mut i = 0;
-    while i < 4 {
-        if file[end + LETTERS_FIELD + i] != letters[i] {
-            return i;
-        }
-        i += 1;
-    }
-    i
-}
+pub use sections::{from_at, loop_at, node_at, range_at, to_at, whole_graph};
 
 fn bad_letters(file: &[u8]) -> bool
     requires { Records.trailer_size ≤ length file.now }
     ensures { result ≡ Files.bad_letters file.now }
 {
     let end = end_of(file);
-    (wrong_letter(file) < 4) | paper::is_bad_version(file[end + VERSION_FIELD])
+    // "then the four letters QMBT"
+    (file[end + LETTERS_FIELD..] != b"QMBT"[..]) | paper::is_bad_version(file[end + VERSION_FIELD])
 }
 
+#[tactic(auto, unfolding(paper::specs::Files::trailer_of))]
 fn trailer_of(file: &[u8]) -> Trailer
     requires { Records.trailer_size ≤ length file.now }
     ensures { result ≡ Files.trailer_of file.now }
@@ -72,12 +50,14 @@ fn trailer_of(file: &[u8]) -> Trailer
     }
 }
 
+#[tactic(auto, unfolding(paper::specs::Files::bad_cache))]
 fn bad_cache(trailer: Trailer) -> bool
     ensures { result ≡ Files.bad_cache trailer }
 {
     !paper::is_in_range(trailer.policy, trailer.ways, trailer.sets)
 }
 
+#[tactic(auto, unfolding(paper::specs::Files::bad_numbers))]
 fn bad_numbers(trailer: Trailer) -> bool
     ensures { result ≡ Files.bad_numbers trailer }
 {
@@ -87,6 +67,7 @@ fn bad_numbers(trailer: Trailer) -> bool
                 | ((MOST_LOOPS < trailer.loops as usize) | (MOST_FACTS < trailer.facts as usize))))
 }
 
+#[tactic(auto, unfolding(paper::specs::Files::bad_offsets))]
 fn bad_offsets(file: &[u8], trailer: Trailer) -> bool
     requires { Records.trailer_size ≤ length file.now }
     ensures { result ≡ Files.bad_offsets file.now trailer }
@@ -99,24 +80,25 @@ fn bad_offsets(file: &[u8], trailer: Trailer) -> bool
                 | (!(u32_at(file, end + FACTS_OFFSET) as usize == facts) | (end < facts))))
 }
 
-pub fn layout_of(file: &[u8]) -> Layout
+// What a file's trailer says, or the first of the rules 1 to 5 that the file breaks.
+pub fn layout_of(file: &[u8]) -> Result<Trailer, Refusal>
     ensures { result ≡ Layouts.layout_of file.now }
 {
     if file.len() < TRAILER_SIZE {
-        return Layout::Refused(paper::refuse(1, 0));
+        return Err(paper::refuse(1, 0));
     }
     if bad_letters(file) {
-        return Layout::Refused(paper::refuse(2, 0));
+        return Err(paper::refuse(2, 0));
     }
     let trailer = trailer_of(file);
     if bad_cache(trailer) {
-        return Layout::Refused(paper::refuse(3, 0));
+        return Err(paper::refuse(3, 0));
     }
     if bad_numbers(trailer) {
-        return Layout::Refused(paper::refuse(4, 0));
+        return Err(paper::refuse(4, 0));
     }
     if bad_offsets(file, trailer) {
-        return Layout::Refused(paper::refuse(5, 0));
+        return Err(paper::refuse(5, 0));
     }
-    Layout::Read(trailer)
+    Ok(trailer)
 }

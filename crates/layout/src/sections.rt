@@ -1,8 +1,11 @@
 // The nodes, edges and loops of a file that is laid out.
-ghost use Rattle.std.specs.Prelude.{◌≡◌, ◌≢◌, ◌<◌};
+#![tactic(auto, unfolding(paper::specs::Files::node_at, paper::specs::Files::from_at, paper::specs::Files::to_at))]
+
+ghost use Rattle.std.specs.Prelude.{ℕ, ◌≡◌, ◌≢◌, ◌≤◌, ◌<◌};
 ghost use Rattle.paper.specs.Files as Files;
 ghost use Rattle.paper.specs.Cases as Cases;
 ghost use Rattle.paper.specs.Known.{Laid};
+ghost use Rattle.paper.specs.declared.Loop.{Loop};
 
 use crate::bytes::{u16_at, u32_at};
 use crate::places::{
@@ -35,6 +38,7 @@ pub fn to_at(file: &[u8], trailer: Trailer, i: u16) -> u16
 }
 
 // "Version 1 is read as without W"
+#[tactic(auto, using(crate::proofs::LoopPlaces::all_in), unfolding(paper::specs::Files::loop_at))]
 fn visits_at(file: &[u8], trailer: Trailer, j: u16) -> u32
     requires laid { Laid file.now trailer }
     requires j_lt_loops { j < trailer.loops }
@@ -46,6 +50,7 @@ fn visits_at(file: &[u8], trailer: Trailer, j: u16) -> u32
     u32_at(file, loop_place(trailer, j) + VISITS_FIELD)
 }
 
+#[tactic(auto, using(crate::proofs::LoopPlaces::front_in), unfolding(paper::specs::Files::loop_at))]
 pub fn loop_at(file: &[u8], trailer: Trailer, j: u16) -> Loop
     requires laid { Laid file.now trailer }
     requires j_lt_loops { j < trailer.loops }
@@ -60,18 +65,27 @@ pub fn loop_at(file: &[u8], trailer: Trailer, j: u16) -> Loop
     }
 }
 
+// The whole graph as a scope: "the whole graph with one entry", which is range 65,535 whatever the loops are.
+#[tactic(auto, unfolding(paper::specs::Cases::range_of))]
+pub fn whole_graph(trailer: Trailer) -> Loop
+    requires { 1 ≤ trailer.nodes }
+    ensures { (loop : ℕ → Loop) → result ≡ Cases.range_of trailer.nodes loop 65535 }
+{
+    Loop {
+        first: 0,
+        last: trailer.nodes - 1,
+        bound: 1,
+        visits: UNLIMITED,
+    }
+}
+
 pub fn range_at(file: &[u8], trailer: Trailer, w: u16) -> Loop
     requires laid { Laid file.now trailer }
     requires w_lt_loops { w ≢ 65535 → w < trailer.loops }
     ensures { result ≡ Cases.range_of trailer.nodes (Files.loop_at file.now trailer) w }
 {
     if w == 65535 {
-        return Loop {
-            first: 0,
-            last: trailer.nodes - 1,
-            bound: 1,
-            visits: UNLIMITED,
-        };
+        return whole_graph(trailer);
     }
     loop_at(file, trailer, w)
 }

@@ -1,7 +1,8 @@
 -- What is printed, by the verdict: the 321 numbers are the bounds, and a file with no layout is refused.
+use Rattle.std.specs.Prelude.{Ok, Err}
 use Prim.Native.Nat.{ℕ, ◌≤◌, ◌<◌}
 use native.Mathlib.Omega.{arith}
-use mathlib.Core.Path.{◌≡◌, refl, sym, ◌∙◌, ap, subst}
+use mathlib.Core.Path.{◌≡◌, refl, sym, ap, subst}
 use mathlib.Core.List.{List, ◌++◌}
 use borrow.Author.Tests.{lt-ltb, le-ltb}
 use lib.ListN.{length, take, drop}
@@ -10,16 +11,13 @@ use native.Mathlib.Decide.{dec_le}
 use mathlib.Core.Logic.{dite}
 use Rattle.paper.specs.declared.Refusal.{Refusal}
 use Rattle.paper.specs.declared.Trailer.{Trailer}
-use Rattle.paper.specs.declared.Verdict.{Verdict}
-use Rattle.paper.specs.declared.Verdict.TheVariants.{Accepted, Refused}
-use Rattle.paper.specs.Answers.{refuse}
+use Rattle.paper.specs.Answers.{Verdict, refuse}
 use Rattle.paper.specs.Cases.{Case}
 use Rattle.paper.specs.Bounds.{fact_bound, set_bound, numbers}
 use Rattle.paper.specs.Files.{trailer_of, case_of, read_case}
 use Rattle.paper.specs.Verdicts.{verdict, lent_after}
 use Rattle.paper.specs.Listings.{bound_lines, accepted, printed, refusal_line, listing_of}
 use Rattle.layout.specs.Layouts.{layout_of}
-use Rattle.layout.specs.declared.Layout.TheVariants as Layouts
 use Rattle.paper.specs.Known.{Laid}
 use Rattle.layout.proofs.Laws.{refused_rules, read_trailer, read_laid}
 use Rattle.theory.proofs.Printed.{total_printed, set_printed, fact_printed}
@@ -48,14 +46,11 @@ pub printed_as : {text other l m : List ℕ} {r : ℕ} → text ≡ other → Pr
 printed_as {text} {other} {l} {m} {r} e p = subst (λ (t : List ℕ). Printed t l r m) e p
 
 module _ (f : List ℕ) (p : ℕ) where
-  pub refused_text : (v : Verdict) (r : Refusal) → v ≡ verdict f 321 → v ≡ Refused r → refusal_line r ≡ printed f p (verdict f 321)
-  refused_text v r a e = ap (printed f p) (sym e ∙ a)
-
-  pub layout_text : (r : Refusal) → layout_of f ≡ Layouts.Refused r → refusal_line r ≡ printed f p (verdict f 321)
+  pub layout_text : (r : Refusal) → layout_of f ≡ Err r → refusal_line r ≡ printed f p (verdict f 321)
   unfolding verdict
   layout_text r e = ap (printed f p) (sym (refused_rules f r _ e))
 
-  pub accepted_text : (lent after : List ℕ) (trailer : Trailer) (v : Verdict) → layout_of f ≡ Layouts.Read trailer → v ≡ verdict f 321 → after ≡ lent_after f p lent v → v ≡ Accepted →
+  pub accepted_text : (lent after : List ℕ) (trailer : Trailer) (v : Verdict) → layout_of f ≡ Ok trailer → v ≡ verdict f 321 → after ≡ lent_after f p lent v → v ≡ Ok tt →
       number_lines after trailer.sets trailer.facts ≡ printed f p (verdict f 321)
   unfolding case_of
   accepted_text lent after trailer v l a n e =

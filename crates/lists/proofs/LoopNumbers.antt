@@ -2,12 +2,9 @@
 use Prim.Native.Nat.{ℕ, ◌+◌, ◌*◌, ◌≤◌, ◌<◌}
 use native.Mathlib.Omega.{arith}
 use mathlib.Core.Path.{◌≡◌, refl, ap}
-use mathlib.Core.Bool.{◌&&◌}
 use mathlib.Core.List.{List}
-use lib.Dec.{leb, ltb}
 use lib.ListN.{length, get_or}
 use Rattle.paper.specs.declared.Loop.{Loop}
-use Rattle.paper.specs.Graphs.{crosses}
 use Rattle.paper.specs.Files.{visits_by}
 use Rattle.paper.specs.Writing.{per_loop}
 use Rattle.paper.proofs.LoopSizes.{per_low, record_ends}
@@ -32,8 +29,3 @@ pub loop_of :
 loop_of version loops j a b c d p q r s =
     let z : per_loop version * j + 0 ≡ per_loop version * j = omega arith in
     rw (p, q, r, s, z) refl
-
--- an earlier loop that ends at x
-pub crossed_at : (o l : Loop) (x : ℕ) → x ≡ o.last → (leb l.first x && ltb x l.last) ≡ crosses o l
-unfolding crosses
-crossed_at o l x e = rw e refl

@@ -1,15 +1,14 @@
 -- A row's slots in the list, tested one after the other.
-use Prim.Native.Nat.{ℕ, zero, suc, ◌+◌, ◌-◌, ◌*◌, ◌%◌, ◌≤◌, ◌<◌}
+use Prim.Native.Nat.{ℕ, zero, suc, ◌+◌, ◌-◌, ◌*◌, ◌%◌, ◌<◌}
 use native.Mathlib.Omega.{arith}
 use native.Mathlib.Decide.{dec_le}
-use mathlib.Core.Path.{◌≡◌, refl, sym, ◌∙◌, ap, subst}
+use mathlib.Core.Path.{◌≡◌, refl, sym, ◌∙◌, ap}
 use mathlib.Core.Bool.{Bool, not, ◌&&◌, ◌||◌}
 use mathlib.Core.List.{List}
 use borrow.Author.Tests.{lt-ltb, le-ltb, le-leb, lt-leb}
 use lib.Dec.{eqb, ltb, leb}
 use Rattle.paper.specs.declared.Trailer.{Trailer}
 use Rattle.paper.specs.declared.Sets.{Sets}
-use Rattle.paper.specs.Shifts.{sets_of}
 use Rattle.paper.specs.Machines.{none}
 use Rattle.paper.specs.Cases.{Row, Case, same_set}
 use Rattle.paper.specs.Facts.{held, bad_slot, bad_row, bad_row_at}
@@ -45,9 +44,6 @@ block_test rows t h r k x n low z q s e l w o = rw (e, lt-ltb k n l, w, below_lo
 -- where x lives
 pub home_of : (t : Trailer) (sets : Sets) (h : Head) → Judged t sets h → (x y : ℕ) → y ≡ x % sets.count → y ≡ x % t.sets
 home_of t sets h k x y e = e ∙ ap (λ (s : ℕ). x % s) k.count
-
-pub judged : (t : Trailer) (sets : Sets) (h : Head) → 0 < t.sets → t.sets ≤ 64 → h.home ≡ h.block % t.sets → sets ≡ sets_of t.sets → Judged t sets h
-judged t sets h a b o e = subst (λ (s : Sets). Judged t s h) (sym e) (record { some = a; few = b; made = refl; count = refl; home = o })
 
 -- the row of the head's node j
 pub row_is : (e : Case) (rows : List ℕ) (h : Head) (j : ℕ) → bad_row e (fact_of rows h) (row_at rows (8 * (h.place + j))) ≡ bad_row_at e (fact_of rows h) j

@@ -1,4 +1,5 @@
 -- The turn of a fact of the lists: what it tells, by its answer, and its chain by the outcomes of the tests.
+use Rattle.std.specs.Prelude.{Result, Ok, Err, Option}
 use Prim.Native.Nat.{ℕ, zero, suc, ◌+◌, ◌-◌, ◌*◌, ◌%◌, ◌≤◌, ◌<◌}
 use native.Mathlib.Omega.{arith}
 use native.Mathlib.Decide.{ℕ_discrete}
@@ -13,9 +14,7 @@ use Rattle.paper.specs.declared.Trailer.{Trailer}
 use Rattle.paper.specs.declared.Previous.{Previous}
 use Rattle.paper.specs.declared.Loop.{Loop}
 use Rattle.paper.specs.declared.Refusal.{Refusal}
-use Rattle.paper.specs.declared.Verdict.{Verdict}
-use Rattle.paper.specs.declared.Verdict.TheVariants as Verdicts
-use Rattle.paper.specs.Answers.{refuse_at}
+use Rattle.paper.specs.Answers.{Verdict, refuse_at}
 use Rattle.paper.specs.Lists.{least, some, sum_to}
 use Rattle.paper.specs.Machines.{none}
 use Rattle.paper.specs.Cases.{size, scope_of, range_of, same_set}
@@ -28,20 +27,18 @@ use Rattle.paper.proofs.FactLaws.{head_sound}
 use Rattle.evidence.specs.declared.Head.{Head}
 use Rattle.evidence.specs.Stands.{nodes_of}
 use Rattle.facts.specs.declared.Kept.{Kept}
-use Rattle.facts.specs.declared.Turn.{Turn}
-use Rattle.facts.specs.declared.Turn.TheVariants as Turns
 use Rattle.lists.specs.Listed.{content, fact_case, row_case, row_at, fact_of, loop_at, Facts}
 use Rattle.lists.specs.Turns.{before, fact, miscounted, body, turn, Stands, Next, Told}
 
 module _ (t : Trailer) (loops heads rows : List ℕ) (i : ℕ) (chain : Verdict → Verdict) where
-  pub told_refused : (r : Refusal) → Verdicts.Refused r ≡ chain Verdicts.Accepted → Told t loops heads rows i chain (Turns.Refused r)
+  pub told_refused : (r : Refusal) → Err r ≡ chain (Ok tt) → Told t loops heads rows i chain (Err r)
   told_refused r e = record { verdict = e; next = λ k q. let z : ◌≡◌ {A = ℕ} 0 1 = cc in absurd (omega arith) }
 
-  pub told_kept : (k : Kept) → Verdicts.Accepted ≡ chain Verdicts.Accepted → Next t loops heads rows i k → Told t loops heads rows i chain (Turns.Kept k)
+  pub told_kept : (k : Kept) → (Ok tt) ≡ chain (Ok tt) → Next t loops heads rows i k → Told t loops heads rows i chain (Ok k)
   told_kept k e n = record { verdict = e; next = λ j q. let z : k ≡ j = cc in subst (Next t loops heads rows i) z n }
 
   -- a chain that goes on where the other begins
-  pub told_on : (other : Verdict → Verdict) (r : Turn) → other Verdicts.Accepted ≡ chain Verdicts.Accepted → Told t loops heads rows i other r → Told t loops heads rows i chain r
+  pub told_on : (other : Verdict → Verdict) (r : Result Kept Refusal) → other (Ok tt) ≡ chain (Ok tt) → Told t loops heads rows i other r → Told t loops heads rows i chain r
   told_on other r e w = record { verdict = w.verdict ∙ e; next = w.next }
 
 pub sum_below : (g : ℕ → ℕ) (i n : ℕ) → i < n → sum_to g i + g i ≤ sum_to g n
@@ -79,8 +76,8 @@ module _ (t : Trailer) (loops heads rows : List ℕ) (i : ℕ) (h : Head) (s : S
         let z : n ≡ nodes_of h = omega (arith, s.rises) in
         sym (ap not (eq-eqb _ _ (sym q ∙ z ∙ scope_size)))
 
-    pub body_15 : n + h.first ≢ h.last + 1 → (r : Refusal) → r ≡ refuse_at 15 i 0 → Verdicts.Refused r ≡ body t loops heads rows i Verdicts.Accepted
-    body_15 w r k = ap Verdicts.Refused k ∙ ap (λ (b : Bool). rule 15 i b (row_rules (fact_case t loops heads rows) i (fact t loops heads rows i) Verdicts.Accepted)) (counted_wrong w)
+    pub body_15 : n + h.first ≢ h.last + 1 → (r : Refusal) → r ≡ refuse_at 15 i 0 → Err r ≡ body t loops heads rows i (Ok tt)
+    body_15 w r k = ap Err k ∙ ap (λ (b : Bool). rule 15 i b (row_rules (fact_case t loops heads rows) i (fact t loops heads rows i) (Ok tt))) (counted_wrong w)
 
     module _ (w : n + h.first ≡ h.last + 1) (j : ℕ) (x : j ≡ least (bad_row_at (row_case t) (fact_of rows h)) n) where
       all_nodes : n ≡ size (scope_of (fact_case t loops heads rows) (fact t loops heads rows i))
@@ -89,14 +86,14 @@ module _ (t : Trailer) (loops heads rows : List ℕ) (i : ℕ) (h : Head) (s : S
       least_is : j ≡ least (bad_row_at (fact_case t loops heads rows) (fact t loops heads rows i)) n
       least_is = x ∙ least_same _ _ n (λ k l. same_row k)
 
-      body_is : body t loops heads rows i Verdicts.Accepted ≡ rule_by (refuse_at 16 i (h.first + j)) (ltb j n) Verdicts.Accepted
+      body_is : body t loops heads rows i (Ok tt) ≡ rule_by (refuse_at 16 i (h.first + j)) (ltb j n) (Ok tt)
       unfolding row_rules some least_node
       body_is = rw (← counted_right w, ← all_nodes, ← least_is, ← s.first) refl
 
-      pub body_16 : j < n → (r : Refusal) → r ≡ refuse_at 16 i (h.first + j) → Verdicts.Refused r ≡ body t loops heads rows i Verdicts.Accepted
-      body_16 l r k = ap Verdicts.Refused k ∙ sym (body_is ∙ rw (lt-ltb j n l) refl)
+      pub body_16 : j < n → (r : Refusal) → r ≡ refuse_at 16 i (h.first + j) → Err r ≡ body t loops heads rows i (Ok tt)
+      body_16 l r k = ap Err k ∙ sym (body_is ∙ rw (lt-ltb j n l) refl)
 
-      pub body_kept : n ≤ j → Verdicts.Accepted ≡ body t loops heads rows i Verdicts.Accepted
+      pub body_kept : n ≤ j → (Ok tt) ≡ body t loops heads rows i (Ok tt)
       body_kept l = sym (body_is ∙ rw (le-ltb j n l) refl)
 
     -- its rows are among the rows
@@ -105,7 +102,7 @@ module _ (t : Trailer) (loops heads rows : List ℕ) (i : ℕ) (h : Head) (s : S
     rows_there k l = omega (arith, q, s.place, k.rows_whole, sum_below (rows_named (content t [] [] [] heads rows)) i t.facts l)
 
     -- what the fact is to the next one
-    pub next_of : Next t loops heads rows i (record { previous = record { any = true; block = h.block; last = h.last }; end = h.place + n })
+    pub next_of : Next t loops heads rows i (record { previous = record { block = h.block; last = h.last }; end = h.place + n })
     unfolding rows_named sum_to
     next_of = record { previous_is = rw (s.block, s.last) refl; end_is = ap (λ (p : ℕ). p + n) s.place ∙ ap (λ (m : ℕ). before t loops heads rows i + m) q }
 
@@ -120,7 +117,7 @@ module _ (t : Trailer) (loops heads rows : List ℕ) (i : ℕ) where
   scope_is r a = a
 
   pub order_is :
-      (r : Loop) → r ≡ range_of t.nodes (loop_at t.version loops) (get_or heads (4 * i) 0) → (previous : Previous) →
+      (r : Loop) → r ≡ range_of t.nodes (loop_at t.version loops) (get_or heads (4 * i) 0) → (previous : Option Previous) →
       wrong_order previous (get_or heads (4 * i + 1) 0) r.first ≡ bad_order (fact_case t loops heads rows) previous (fact t loops heads rows i)
   unfolding bad_order
   order_is r a previous = ap (λ (s : Loop). wrong_order previous (get_or heads (4 * i + 1) 0) s.first) (scope_is r a)
@@ -158,8 +155,8 @@ module _ (t : Trailer) (loops heads rows : List ℕ) (i : ℕ) where
 
   -- the turn's chain, by the outcomes a and b of its first tests
   pub turn_is :
-      (previous : Previous) (a b : Bool) (v : Verdict) → a ≡ bad_head (fact_case t loops heads rows) (fact t loops heads rows i) →
-      b ≡ bad_order (fact_case t loops heads rows) previous (fact t loops heads rows i) → v ≡ body t loops heads rows i Verdicts.Accepted →
-      rule 12 i a (rule 13 i b v) ≡ turn t loops heads rows i previous Verdicts.Accepted
+      (previous : Option Previous) (a b : Bool) (v : Verdict) → a ≡ bad_head (fact_case t loops heads rows) (fact t loops heads rows i) →
+      b ≡ bad_order (fact_case t loops heads rows) previous (fact t loops heads rows i) → v ≡ body t loops heads rows i (Ok tt) →
+      rule 12 i a (rule 13 i b v) ≡ turn t loops heads rows i previous (Ok tt)
   unfolding content_rules head_rule order_rule
   turn_is previous a b v x y z = cc

@@ -1,4 +1,5 @@
 -- Rules 2, 3 and 4 on the lists: what they say where they are passed, and the chain by the answer.
+use Rattle.std.specs.Prelude.{Result, Ok, Err}
 use Prim.Native.Nat.{ℕ, ◌/◌, ◌%◌, ◌≤◌}
 use native.Mathlib.Omega.{arith}
 use native.Mathlib.Nat.{div-add-mod}
@@ -10,9 +11,7 @@ use lib.ListN.{length}
 use borrow.Author.Tests.{eqb-true, ltb-false, not-false}
 use Rattle.paper.specs.declared.Refusal.{Refusal}
 use Rattle.paper.specs.declared.Trailer.{Trailer}
-use Rattle.paper.specs.declared.Verdict.{Verdict}
-use Rattle.paper.specs.declared.Verdict.TheVariants as Verdicts
-use Rattle.paper.specs.Answers.{refuse}
+use Rattle.paper.specs.Answers.{Verdict, refuse}
 use Rattle.paper.specs.Ceilings.{most_nodes, most_edges, most_loops, most_facts}
 use Rattle.paper.specs.Machines.{in_range}
 use Rattle.paper.specs.Records.{bad_version}
@@ -21,8 +20,6 @@ use Rattle.paper.specs.Rules.{rule}
 use Rattle.paper.specs.Writing.{FileContent, per_loop, trailer_in, rows_named, bad_lists, list_rules}
 use Rattle.paper.proofs.Says.{neither, says_true}
 use Rattle.paper.proofs.States.{says_range}
-use Rattle.layout.specs.declared.Layout.{Layout}
-use Rattle.layout.specs.declared.Layout.TheVariants as Layouts
 use Rattle.lists.specs.Listed.{plain, Listed}
 use Rattle.lists.specs.Listings.{offered, listing_of}
 
@@ -70,16 +67,16 @@ module _ (c : FileContent) (cache : bad_cache (trailer_in c) ≡ false) (e : (ba
       }
 
 -- the answer, by the outcomes of the tests
-abbrev answer_by : Bool → Bool → Bool → Trailer → Layout
-answer_by v a b t = cond v (Layouts.Refused (refuse 2 0)) (cond a (Layouts.Refused (refuse 3 0)) (cond b (Layouts.Refused (refuse 4 0)) (Layouts.Read t)))
+abbrev answer_by : Bool → Bool → Bool → Trailer → Result Trailer Refusal
+answer_by v a b t = cond v (Err (refuse 2 0)) (cond a (Err (refuse 3 0)) (cond b (Err (refuse 4 0)) (Ok t)))
 
-refused_by : (v a b : Bool) (t : Trailer) (r : Refusal) (rest : Verdict) → answer_by v a b t ≡ Layouts.Refused r → rule 2 0 v (rule 3 0 a (rule 4 0 b rest)) ≡ Verdicts.Refused r
-refused_by true a b t r rest h = let z : refuse 2 0 ≡ r = cc in ap Verdicts.Refused z
-refused_by false true b t r rest h = let z : refuse 3 0 ≡ r = cc in ap Verdicts.Refused z
-refused_by false false true t r rest h = let z : refuse 4 0 ≡ r = cc in ap Verdicts.Refused z
+refused_by : (v a b : Bool) (t : Trailer) (r : Refusal) (rest : Verdict) → answer_by v a b t ≡ Err r → rule 2 0 v (rule 3 0 a (rule 4 0 b rest)) ≡ Err r
+refused_by true a b t r rest h = let z : refuse 2 0 ≡ r = cc in ap Err z
+refused_by false true b t r rest h = let z : refuse 3 0 ≡ r = cc in ap Err z
+refused_by false false true t r rest h = let z : refuse 4 0 ≡ r = cc in ap Err z
 refused_by false false false t r rest h = let z : ◌≡◌ {A = ℕ} 0 1 = cc in absurd (omega arith)
 
-read_by : (v a b : Bool) (t s : Trailer) → answer_by v a b t ≡ Layouts.Read s → (v ≡ false) × (a ≡ false) × (b ≡ false) × (t ≡ s)
+read_by : (v a b : Bool) (t s : Trailer) → answer_by v a b t ≡ Ok s → (v ≡ false) × (a ≡ false) × (b ≡ false) × (t ≡ s)
 read_by true a b t s h = let z : ◌≡◌ {A = ℕ} 0 1 = cc in absurd (omega arith)
 read_by false true b t s h = let z : ◌≡◌ {A = ℕ} 0 1 = cc in absurd (omega arith)
 read_by false false true t s h = let z : ◌≡◌ {A = ℕ} 0 1 = cc in absurd (omega arith)
@@ -98,30 +95,30 @@ module _ (version policy ways sets : ℕ) (nodes edges loops heads rows : List �
   abbrev c : FileContent
   c = offered version policy ways sets nodes edges loops heads rows
 
-  pub listing_2 : v ≡ true → (r : Refusal) → r ≡ refuse 2 0 → Layouts.Refused r ≡ listing_of c
+  pub listing_2 : v ≡ true → (r : Refusal) → r ≡ refuse 2 0 → Err r ≡ listing_of c
   unfolding listing_of
-  listing_2 h r q = rw (← e, h) (ap Layouts.Refused q)
+  listing_2 h r q = rw (← e, h) (ap Err q)
 
   module _ (n : v ≡ false) (a : Bool) (x : a ≡ in_range policy ways sets) where
     cache_is : not a ≡ bad_cache (trailer_in c)
     unfolding bad_cache trailer_in
     cache_is = ap not x
 
-    pub listing_3 : not a ≡ true → (r : Refusal) → r ≡ refuse 3 0 → Layouts.Refused r ≡ listing_of c
+    pub listing_3 : not a ≡ true → (r : Refusal) → r ≡ refuse 3 0 → Err r ≡ listing_of c
     unfolding listing_of
-    listing_3 h r q = rw (← e, n, ← cache_is, h) (ap Layouts.Refused q)
+    listing_3 h r q = rw (← e, n, ← cache_is, h) (ap Err q)
 
     module _ (k : not a ≡ false) (b : Bool) (y : b ≡ (bad_lists (plain version nodes edges loops heads rows) || bad_numbers (trailer_in (plain version nodes edges loops heads rows)))) where
       lists_are : b ≡ (bad_lists c || bad_numbers (trailer_in c))
       unfolding bad_lists bad_numbers trailer_in rows_named
       lists_are = y
 
-      pub listing_4 : b ≡ true → (r : Refusal) → r ≡ refuse 4 0 → Layouts.Refused r ≡ listing_of c
+      pub listing_4 : b ≡ true → (r : Refusal) → r ≡ refuse 4 0 → Err r ≡ listing_of c
       unfolding listing_of
-      listing_4 h r q = rw (← e, n, ← cache_is, k, ← lists_are, h) (ap Layouts.Refused q)
+      listing_4 h r q = rw (← e, n, ← cache_is, k, ← lists_are, h) (ap Err q)
 
       module _ (h : b ≡ false) where
-        pub listing_5 : Layouts.Read (trailer_in c) ≡ listing_of c
+        pub listing_5 : Ok (trailer_in c) ≡ listing_of c
         unfolding listing_of
         listing_5 = rw (← e, n, ← cache_is, k, ← lists_are, h) refl
 
@@ -133,11 +130,11 @@ module _ (version policy ways sets : ℕ) (nodes edges loops heads rows : List �
         small = (numbers.nodes_high, numbers.edges_high, numbers.loops_high, numbers.facts_high)
 
 module _ (c : FileContent) where
-  pub listing_refused : (r : Refusal) → listing_of c ≡ Layouts.Refused r → (rest : Verdict) → list_rules c rest ≡ Verdicts.Refused r
+  pub listing_refused : (r : Refusal) → listing_of c ≡ Err r → (rest : Verdict) → list_rules c rest ≡ Err r
   unfolding listing_of list_rules
   listing_refused r h rest = refused_by (bad_version c.version) (bad_cache (trailer_in c)) (bad_lists c || bad_numbers (trailer_in c)) (trailer_in c) r rest h
 
-  module _ (t : Trailer) (h : listing_of c ≡ Layouts.Read t) where
+  module _ (t : Trailer) (h : listing_of c ≡ Ok t) where
     outcomes : (bad_version c.version ≡ false) × (bad_cache (trailer_in c) ≡ false) × ((bad_lists c || bad_numbers (trailer_in c)) ≡ false) × (trailer_in c ≡ t)
     unfolding listing_of
     outcomes = read_by (bad_version c.version) (bad_cache (trailer_in c)) (bad_lists c || bad_numbers (trailer_in c)) (trailer_in c) t h

@@ -3,12 +3,8 @@ use Rattle.std.specs.Prelude.{ℕ, ◌+◌, ◌*◌, ◌%◌, ◌≤◌, ◌<◌
 use Rattle.paper.specs.declared.Trailer.{Trailer}
 use Rattle.paper.specs.declared.Loop.{Loop}
 use Rattle.paper.specs.declared.Sets.{Sets}
-use Rattle.paper.specs.Shifts.{sets_of}
 use Rattle.paper.specs.Cases.{Row, Fact, Case}
-use Rattle.paper.specs.declared.Verdict.{Verdict}
-use Rattle.paper.specs.Graphs.{bad_edge, bad_loop}
 use Rattle.paper.specs.Files.{visits_by}
-use Rattle.paper.specs.Rules.{rule_at}
 use Rattle.paper.specs.Ceilings.{most_nodes, most_edges, most_loops, most_facts}
 use Rattle.paper.specs.Writing.{FileContent, per_loop, trailer_in, loop_in, rows_before, fact_in, bad_lists}
 use Rattle.evidence.specs.declared.Head.{Head}
@@ -51,18 +47,9 @@ told t edges loops heads rows =
       fact = fact_in (content t [] [] [] heads rows);
     }
 
--- what rule 6 looks at, rule 7, and the rules of a fact; rules 6 and 7 on the lists
-abbrev pub edge_case : Trailer → List ℕ → Case
-edge_case t edges = told t edges [] [] []
-
-abbrev pub loop_case : Trailer → List ℕ → Case
-loop_case t loops = told t [] loops [] []
-
+-- what the rules of a fact look at
 abbrev pub fact_case : Trailer → List ℕ → List ℕ → List ℕ → Case
 fact_case t loops heads rows = told t [] loops heads rows
-
-abbrev pub shape_of : Trailer → List ℕ → List ℕ → Verdict → Verdict
-shape_of t edges loops rest = rule_at 6 (bad_edge (edge_case t edges)) t.edges (rule_at 7 (bad_loop (loop_case t loops)) t.loops rest)
 
 -- loop j of the list
 abbrev pub loop_at : ℕ → List ℕ → ℕ → Loop
@@ -92,11 +79,8 @@ pub record SetAt (rows : List ℕ) (at n : ℕ) : Type 0 where
   pub few : n < 8
   pub number : n ≡ get_or rows at 0
 
--- The number of sets made ready, and where the fact's block lives.
+-- The number of sets is the trailer's, and where the fact's block lives.
 pub record Judged (t : Trailer) (sets : Sets) (h : Head) : Type 0 where
-  pub some : 0 < sets.count
-  pub few : sets.count ≤ 64
-  pub made : sets ≡ sets_of sets.count
   pub count : sets.count ≡ t.sets
   pub home : h.home ≡ h.block % t.sets
 

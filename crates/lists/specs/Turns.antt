@@ -1,9 +1,8 @@
 -- "then for each fact in turn 12, 13, 15 and 16": the chain of a fact of the lists, and what its turn tells.
-use Rattle.std.specs.Prelude.{ℕ, suc, ◌+◌, ◌*◌, ◌%◌, ◌≤◌, ◌<◌, ◌≡◌, Bool, not, List, [], eqb, get_or}
+use Rattle.std.specs.Prelude.{ℕ, suc, ◌+◌, ◌*◌, ◌%◌, ◌≤◌, ◌<◌, ◌≡◌, Bool, not, List, [], eqb, get_or, Result, Ok, Option, Some}
 use Rattle.paper.specs.declared.Trailer.{Trailer}
 use Rattle.paper.specs.declared.Previous.{Previous}
-use Rattle.paper.specs.declared.Verdict.{Verdict}
-use Rattle.paper.specs.declared.Verdict.TheVariants as Verdicts
+use Rattle.paper.specs.Answers.{Verdict}
 use Rattle.paper.specs.Cases.{Fact, size, scope_of}
 use Rattle.paper.specs.Facts.{none_previous, previous_of}
 use Rattle.paper.specs.Rules.{rule}
@@ -11,10 +10,9 @@ use Rattle.paper.specs.Verdicts.{row_rules}
 use Rattle.paper.specs.Writing.{rows_before, content_rules, in_turn}
 use Rattle.evidence.specs.declared.Head.{Head}
 use Rattle.facts.specs.declared.Kept.{Kept}
-use Rattle.facts.specs.declared.Turn.{Turn}
-use Rattle.facts.specs.declared.Turn.TheVariants as Turns
 use Rattle.facts.specs.Turns.{verdict_of}
 use Rattle.lists.specs.Listed.{content, fact_case}
+use Rattle.paper.specs.declared.Refusal.{Refusal}
 
 module _ (t : Trailer) (loops heads rows : List ℕ) where
   -- how many rows come before fact i
@@ -33,7 +31,7 @@ module _ (t : Trailer) (loops heads rows : List ℕ) where
   body i rest = rule 15 i (miscounted i) (row_rules (fact_case t loops heads rows) i (fact i) rest)
 
   -- fact i's turn, after the previous one
-  abbrev pub turn : ℕ → Previous → Verdict → Verdict
+  abbrev pub turn : ℕ → Option Previous → Verdict → Verdict
   turn i previous rest = content_rules (fact_case t loops heads rows) i previous (miscounted i) rest
 
   abbrev pub turns : Verdict → Verdict
@@ -52,10 +50,10 @@ module _ (t : Trailer) (loops heads rows : List ℕ) where
 
   -- After fact i: what it is to the next one, and how many rows there are up to its end.
   pub record Next (i : ℕ) (kept : Kept) : Type 0 where
-    pub previous_is : kept.previous ≡ previous_of (fact_case t loops heads rows) (fact i)
+    pub previous_is : Some kept.previous ≡ previous_of (fact_case t loops heads rows) (fact i)
     pub end_is : kept.end ≡ before (suc i)
 
   -- Fact i is judged by the chain: it is refused as the chain refuses, or it is kept.
-  pub record Told (i : ℕ) (chain : Verdict → Verdict) (r : Turn) : Type 0 where
-    pub verdict : verdict_of r ≡ chain Verdicts.Accepted
-    pub next : (kept : Kept) → r ≡ Turns.Kept kept → Next i kept
+  pub record Told (i : ℕ) (chain : Verdict → Verdict) (r : Result Kept Refusal) : Type 0 where
+    pub verdict : verdict_of r ≡ chain (Ok tt)
+    pub next : (kept : Kept) → r ≡ Ok kept → Next i kept

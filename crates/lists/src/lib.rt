@@ -1,7 +1,7 @@
 // The rules of the check on lists instead of a file: 2, 3, 4, 6, 7, and for each fact in turn 12, 13, 15 and 16.
 #![tactic(auto)]
 
-ghost use Rattle.std.specs.Prelude.{◌≡◌};
+ghost use Rattle.std.specs.Prelude.{◌≡◌, Ok};
 ghost use Rattle.paper.specs.Verdicts as Verdicts;
 ghost use Rattle.paper.specs.Writing.{case_in, written_facts};
 ghost use Rattle.lists.specs.Listed.{content, Listed, Facts};
@@ -13,12 +13,11 @@ mod shapes;
 mod turns;
 mod whole;
 
-use layout::Layout;
 use numbers::per_loop;
 pub use numbers::{loop_number, visits_of};
-use paper::{Trailer, Verdict};
-use shapes::shape_rules;
-use turns::fact_rules;
+use paper::{Refusal, Trailer};
+use shapes::ListShape;
+use turns::FactLists;
 use whole::bad_lists;
 
 // 2, 3 and 4: how many of each there are, or the refusal.
@@ -32,20 +31,20 @@ pub fn listing_of(
     loops: &[u32],
     heads: &[u16],
     rows: &[u16],
-) -> Layout
+) -> Result<Trailer, Refusal>
     ensures { result ≡ listing_of (offered version policy ways sets nodes.now edges.now loops.now heads.now rows.now) }
 {
     if paper::is_bad_version(version) {
-        return Layout::Refused(paper::refuse(2, 0));
+        return Err(paper::refuse(2, 0));
     }
     if !paper::is_in_range(policy, ways, sets) {
-        return Layout::Refused(paper::refuse(3, 0));
+        return Err(paper::refuse(3, 0));
     }
     if bad_lists(version, nodes, edges, loops, heads, rows) {
-        return Layout::Refused(paper::refuse(4, 0));
+        return Err(paper::refuse(4, 0));
     }
     let per = per_loop(version);
-    Layout::Read(Trailer {
+    Ok(Trailer {
         nodes: nodes.len() as u16,
         edges: (edges.len() / 2) as u16,
         loops: (loops.len() / per) as u16,
@@ -65,14 +64,21 @@ pub fn rules_on(
     loops: &[u32],
     heads: &[u16],
     rows: &[u16],
-) -> Verdict
+) -> Result<(), Refusal>
     requires { Listed (content trailer nodes.now edges.now loops.now heads.now rows.now) trailer }
-    ensures value { result ≡ Verdicts.shape_rules (case_in (content trailer nodes.now edges.now loops.now heads.now rows.now)) (written_facts (content trailer nodes.now edges.now loops.now heads.now rows.now) Verdict.Accepted) }
-    ensures facts { result ≡ Verdict.Accepted → Facts trailer loops.now heads.now rows.now }
+    ensures value { result ≡ Verdicts.shape_rules (case_in (content trailer nodes.now edges.now loops.now heads.now rows.now)) (written_facts (content trailer nodes.now edges.now loops.now heads.now rows.now) (Ok tt)) }
+    ensures facts { result ≡ Ok tt → Facts trailer loops.now heads.now rows.now }
 {
-    let shape = shape_rules(trailer, edges, loops);
-    if let Verdict::Refused(r) = shape {
-        return Verdict::Refused(r);
-    }
-    fact_rules(trailer, loops, heads, rows)
+    graph::shape_rules_on(&ListShape {
+        trailer,
+        edges,
+        loops,
+    })?;
+    let lists = FactLists {
+        trailer,
+        loops,
+        heads,
+        rows,
+    };
+    lists.fact_rules()
 }

@@ -2,7 +2,10 @@
 ghost use Rattle.std.specs.Prelude.{◌≡◌, ◌+◌, ◌*◌, ◌<◌, ◌≤◌, length, get_or};
 ghost use Rattle.paper.specs.Files.{visits_by};
 ghost use Rattle.paper.specs.Writing.{per_loop};
+ghost use Rattle.graph.specs.Wide.{as_loop};
+ghost use Rattle.lists.specs.Listed.{loop_at};
 
+use graph::WideLoop;
 use paper::{Trailer, UNLIMITED, WITHOUT_W};
 
 // "Version 1 content carries no W."
@@ -37,4 +40,18 @@ pub fn visits_of(trailer: Trailer, loops: &[u32], j: u16) -> u32
         return UNLIMITED;
     }
     loops[4 * (j as usize) + 3]
+}
+
+// Loop j, its ends as wide as they are handed over.
+pub fn loop_at(trailer: Trailer, loops: &[u32], j: u16) -> WideLoop
+    requires loops_len { length loops.now ≡ per_loop trailer.version * trailer.loops }
+    requires j_lt_loops { j < trailer.loops }
+    ensures { as_loop result ≡ loop_at trailer.version loops.now j }
+{
+    WideLoop {
+        first: loop_number(trailer, loops, j, 0),
+        last: loop_number(trailer, loops, j, 1),
+        bound: loop_number(trailer, loops, j, 2),
+        visits: visits_of(trailer, loops, j),
+    }
 }

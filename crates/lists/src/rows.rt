@@ -1,19 +1,20 @@
 // Rule 16: the rows of a fact, eight numbers each.
 ghost use Rattle.std.specs.Prelude.{◌≡◌, not, ◌+◌, ◌*◌, ◌%◌, ◌<◌, ◌≤◌, eqb, length};
-ghost use Rattle.paper.specs.Lists.{least, some};
+ghost use Rattle.paper.specs.Lists.{some};
+ghost use Rattle.layout.specs.Firsts.{first};
 ghost use Rattle.paper.specs.Facts as Facts;
 ghost use Rattle.evidence.specs.RowParts.{unfree};
 ghost use Rattle.lists.specs.Listed.{row_at, fact_of, row_case, SetAt, Judged};
 
 use evidence::Head;
-use paper::{Sets, Trailer};
+use paper::{MANY, Sets, Trailer, UNFETCHED};
 
 // "block b lives in set b mod S": x lives in another set than the fact's block. (The trailer is handed on for the contract.)
 fn elsewhere(trailer: Trailer, sets: Sets, h: Head, x: u16) -> bool
     requires { Judged trailer sets h }
     ensures { result ≡ not (eqb (x % trailer.sets) h.home) }
 {
-    paper::home_in(x, sets) != h.home as usize
+    sets.home(x) != h.home as usize
 }
 
 // Slot i of the row at `at`.
@@ -32,14 +33,12 @@ fn bad_blocks(rows: &[u16], trailer: Trailer, sets: Sets, h: Head, at: usize, n:
     ensures { result ≡ some (Facts.bad_slot (row_case trailer) (fact_of rows.now h) (row_at rows.now at)) n }
 {
     let mut low: u16 = 0;
-    let mut i: u16 = 0;
-    while i < n {
+    for i in 0..n {
         let x = slot_at(rows, at, i);
         if (x == 65535) | ((x == h.block) | (elsewhere(trailer, sets, h, x) | (x < low))) {
             return true;
         }
         low = x + 1;
-        i += 1;
     }
     false
 }
@@ -50,12 +49,10 @@ fn bad_rest(rows: &[u16], at: usize, n: u16) -> bool
     requires n_bound { n < 8 }
     ensures { result ≡ some (unfree n (row_at rows.now at)) 7 }
 {
-    let mut i: u16 = n;
-    while i < 7 {
+    for i in n..7 {
         if slot_at(rows, at, i) != 65535 {
             return true;
         }
-        i += 1;
     }
     false
 }
@@ -67,10 +64,10 @@ fn bad_row(rows: &[u16], trailer: Trailer, sets: Sets, h: Head, at: usize) -> bo
     ensures { result ≡ Facts.bad_row (row_case trailer) (fact_of rows.now h) (row_at rows.now at) }
 {
     let n = rows[at];
-    if 9 < n {
+    if UNFETCHED < n {
         return true;
     }
-    if 8 <= n {
+    if MANY <= n {
         return bad_rest(rows, at, 0);
     }
     if h.limit <= n {
@@ -82,18 +79,16 @@ fn bad_row(rows: &[u16], trailer: Trailer, sets: Sets, h: Head, at: usize) -> bo
     bad_rest(rows, at, n)
 }
 
-// 16: "a row not sound": the least of the n rows from the head's place on that is not, and n where there is none.
-pub fn bad_rows(rows: &[u16], trailer: Trailer, sets: Sets, h: Head, n: u16) -> u16
+// 16: "a row not sound": the least of the n rows from the head's place on that is not.
+pub fn bad_rows(rows: &[u16], trailer: Trailer, sets: Sets, h: Head, n: u16) -> Option<u16>
     requires judged { Judged trailer sets h }
     requires n_in_bounds { 8 * (h.place + n) ≤ length rows.now }
-    ensures { result ≡ least (Facts.bad_row_at (row_case trailer) (fact_of rows.now h)) n }
+    ensures { result ≡ first (Facts.bad_row_at (row_case trailer) (fact_of rows.now h)) n }
 {
-    let mut j: u16 = 0;
-    while j < n {
+    for j in 0..n {
         if bad_row(rows, trailer, sets, h, 8 * (h.place + (j as usize))) {
-            return j;
+            return Some(j);
         }
-        j += 1;
     }
-    j
+    None
 }

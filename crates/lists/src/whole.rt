@@ -8,13 +8,6 @@ ghost use Rattle.lists.specs.Listed.{plain};
 use crate::numbers::per_loop;
 use paper::{MOST_EDGES, MOST_FACTS, MOST_LOOPS, MOST_NODES};
 
-fn wide(x: u16) -> usize
-    ensures value { result ≡ x }
-    ensures upper_bound { result ≤ 65535 }
-{
-    x as usize
-}
-
 // How many rows the first n heads name.
 fn rows_named(heads: &[u16], n: usize) -> usize
     requires n_in_bounds { 4 * n ≤ length heads.now }
@@ -23,10 +16,8 @@ fn rows_named(heads: &[u16], n: usize) -> usize
     ensures upper_bound { result ≤ 65535 * n }
 {
     let mut sum: usize = 0;
-    let mut i = 0;
-    while i < n {
-        sum += wide(heads[4 * i + 3]);
-        i += 1;
+    for i in 0..n {
+        sum += heads[4 * i + 3] as usize;
     }
     sum
 }

@@ -2,7 +2,6 @@
 #![tactic(auto)]
 
 ghost use Rattle.std.specs.Prelude.{◌≡◌, suc, ◌<◌, ◌≤◌, cond, length, get_or};
-ghost use Rattle.paper.specs.Ceilings.{most_loops};
 ghost use Rattle.paper.specs.Known.{Laid};
 ghost use Rattle.paper.specs.Cases.{inside};
 ghost use Rattle.loops.specs.Counts as Counts;
@@ -41,20 +40,10 @@ pub fn count(loops: &[Loop], node: u16) -> u32
     ensures { result ≡ count_in loops.now (length loops.now) node }
 {
     let mut visits: u32 = 1;
-    let mut j: usize = 0;
-    while j < loops.len() {
-        visits = step(visits, loops[j], node);
-        j += 1;
+    for one in loops {
+        visits = step(visits, *one, node);
     }
     visits
-}
-
-// The same over the first n of 64: they are lent for the call.
-pub fn count_in(loops: [Loop; MOST_LOOPS], n: usize, node: u16) -> u32
-    requires { n ≤ most_loops }
-    ensures { result ≡ count_in loops n node }
-{
-    count(&loops[..n], node)
 }
 
 // The file's loops.
@@ -68,19 +57,17 @@ pub fn loops_of(file: &[u8], trailer: Trailer) -> [Loop; MOST_LOOPS]
         bound: 0,
         visits: 0,
     }; MOST_LOOPS];
-    let mut j: u16 = 0;
-    while j < trailer.loops {
+    for j in 0..trailer.loops {
         loops[j as usize] = layout::loop_at(file, trailer, j);
-        j += 1;
     }
     loops
 }
 
 // The count of loop j's header over the loops up to j. Where rule 7 is kept no later loop has that header, and it is the count of each node that j is the innermost loop of.
-pub fn header_count(loops: [Loop; MOST_LOOPS], j: u16) -> u32
-    requires { j < most_loops }
-    ensures { result ≡ count_in loops (suc j) (get_or loops j no_loop).first }
+pub fn header_count(loops: &[Loop], j: u16) -> u32
+    requires { j < length loops.now }
+    ensures { result ≡ count_in loops.now (suc j) (get_or loops.now j no_loop).first }
 {
     let at = j as usize;
-    count_in(loops, at + 1, loops[at].first)
+    count(&loops[..=at], loops[at].first)
 }

@@ -1,15 +1,9 @@
 // "For eight ways the NMRU bits come from a table over all 256 patterns and eight lines (2,048 entries), pattern p and line j at entry 8p + j": four patterns to a line.
 #![tactic(auto)]
 
-ghost use Rattle.std.specs.Prelude.{◌≡◌, ◌+◌, ◌^◌, ◌<◌};
-ghost use Rattle.paper.specs.Machines.{nmru_step};
-ghost use Rattle.paper.specs.NextBits.{next_bits};
-ghost use Rattle.paper.specs.Ready.{Ready};
-ghost use Rattle.paper.specs.Shifts.{line_for};
+use paper::NextBits;
 
-use paper::{Block, Line, SetState, Stepped};
-
-const NEXT: [u8; 2048] = *b"\
+static NEXT: [u8; 2048] = *b"\
     \x01\x02\x04\x08\x10\x20\x40\x80\x01\x03\x05\x09\x11\x21\x41\x81\x03\x02\x06\x0a\x12\x22\x42\x82\x03\x03\x07\x0b\x13\x23\x43\x83\
     \x05\x06\x04\x0c\x14\x24\x44\x84\x05\x07\x05\x0d\x15\x25\x45\x85\x07\x06\x06\x0e\x16\x26\x46\x86\x07\x07\x07\x0f\x17\x27\x47\x87\
     \x09\x0a\x0c\x08\x18\x28\x48\x88\x09\x0b\x0d\x09\x19\x29\x49\x89\x0b\x0a\x0e\x0a\x1a\x2a\x4a\x8a\x0b\x0b\x0f\x0b\x1b\x2b\x4b\x8b\
@@ -75,20 +69,7 @@ const NEXT: [u8; 2048] = *b"\
     \xf9\xfa\xfc\xf8\xf8\xf8\xf8\xf8\xf9\xfb\xfd\xf9\xf9\xf9\xf9\xf9\xfb\xfa\xfe\xfa\xfa\xfa\xfa\xfa\xfb\xfb\x04\xfb\xfb\xfb\xfb\xfb\
     \xfd\xfe\xfc\xfc\xfc\xfc\xfc\xfc\xfd\x02\xfd\xfd\xfd\xfd\xfd\xfd\x01\xfe\xfe\xfe\xfe\xfe\xfe\xfe\x01\x02\x04\x08\x10\x20\x40\x80";
 
-// The whole table, for whoever lends it to many steps: an index into the constant itself would copy it at each use.
-pub fn next_bits() -> [u8; 2048]
-    ensures { result ≡ next_bits }
-{
-    NEXT
-}
-
-// One step of eight ways, which looks at the table once: its own copy is made faster than one that is handed over.
-pub fn step_of_eight(state: SetState, block: Block, line: Line) -> Stepped
-    requires ready { Ready 8 state.lines }
-    requires bits_bound { state.bits + 1 < 2 ^ 8 }
-    requires line_value { line ≡ line_for 8 state block.0 }
-    ensures { result ≡ nmru_step 8 state block.0 }
-{
-    let next = NEXT;
-    state.nmru(8, block, line, &next)
+// It lies where the program does, and whoever looks at it makes no copy.
+pub fn next_bits() -> NextBits<'static> {
+    NextBits { table: &NEXT }
 }

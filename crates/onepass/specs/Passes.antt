@@ -1,12 +1,9 @@
 -- What one pass for all ways gives.
-use Rattle.std.specs.Prelude.{ℕ, suc, ◌<◌, ◌≡◌, List, get_or, replicate}
+use Rattle.std.specs.Prelude.{ℕ, suc, ◌<◌, ◌≡◌, List, get_or}
 use Rattle.lines.specs.Lines.{weight_of}
 use Rattle.paper.specs.Lists.{table}
 use Rattle.paper.specs.Machines.{empty_set}
 use Rattle.paper.specs.AllWays.{misses_with}
-use Rattle.paper.specs.declared.Verdict.TheVariants.{Refused}
-use Rattle.paper.specs.declared.WaysAnswer.{WaysAnswer}
-use Rattle.paper.specs.Answers.{refuse}
 use Rattle.inclusion.specs.FoundLines.{found_at}
 
 -- How many accesses find their block in each line of eight ways, by the line's weight.
@@ -16,7 +13,3 @@ pub record Found (sets : ℕ) (blocks found : List ℕ) : Type 0 where
 -- The misses with one way to eight.
 abbrev pub eight_counts : ℕ → List ℕ → List ℕ
 eight_counts sets blocks = table (λ j. misses_with sets blocks (suc j)) 8
-
--- "no count returned"
-abbrev pub refused_ways : ℕ → ℕ → WaysAnswer
-refused_ways number place = record { counts = replicate 8 0; verdict = Refused (refuse number place) }

@@ -6,17 +6,18 @@ ghost use Rattle.lines.specs.Lines.{weight_of};
 ghost use Rattle.paper.specs.AllWays.{all_ways};
 ghost use Rattle.paper.specs.Policies.{lru_policy};
 ghost use Rattle.runs.specs.TraceRuns.{Runs};
-ghost use Rattle.onepass.specs.Passes.{Found, eight_counts, refused_ways};
+ghost use Rattle.onepass.specs.Passes.{Found, eight_counts};
 
-use paper::{Block, SetState, Verdict, WaysAnswer};
+use paper::{Block, Refusal, SetState, Sets};
 
 // A run of LRU with eight ways. "count each access by how many other blocks of its set came since its last one": by the weight of its line, which the step has at hand; 0 stands for a miss.
 // It asks for what a trace run asks for; it writes no marks, and the blocks stand for the list that would be lent.
+// A loop beside that of `runs`, which writes marks: it counts the weight that was looked for, which a step does not tell.
 fn found_by_weight(sets: u8, blocks: &[u16]) -> [u64; 256]
     requires { Runs lru_policy 8 sets blocks.now blocks.now }
     ensures { Found sets blocks.now result }
 {
-    let all = paper::sets_of(sets);
+    let all = Sets::of(sets);
     let mut shift = paper::shift_of(8);
     let mut found = [0u64; 256];
     let mut states = [SetState {
@@ -25,22 +26,19 @@ fn found_by_weight(sets: u8, blocks: &[u16]) -> [u64; 256]
     }; 64];
     let mut state = states[0];
     let mut last: usize = 0;
-    let mut i: usize = 0;
-    while i < blocks.len() {
-        let b = blocks[i];
-        let at = paper::home_in(b, all);
+    for b in blocks {
+        let at = all.home(*b);
         if at != last {
             states[last] = state;
             state = states[at];
             last = at;
         }
-        let n = state.shift(8, Block(b), shift);
-        let t = state.lru(8, Block(b), n);
+        let n = state.shift(8, Block(*b), shift);
+        let t = state.lru(8, Block(*b), n);
         let w = n.weight as usize;
         shift = n;
         state = t.state;
         found[w] += 1;
-        i += 1;
     }
     found
 }
@@ -62,38 +60,23 @@ fn counts(sets: u8, blocks: &[u16]) -> [u64; 8]
     let found = found_by_weight(sets, blocks);
     let mut counts = [0u64; 8];
     let mut left = blocks.len() as u64;
-    let mut j: usize = 0;
-    while j < 8 {
+    for j in 0..8 {
         left -= found[weight_of(j)];
         counts[j] = left;
-        j += 1;
     }
     counts
 }
 
-// "no count returned"
-fn refused(number: u8, place: usize) -> WaysAnswer
-    ensures { result ≡ refused_ways number place }
-{
-    WaysAnswer {
-        counts: [0; 8],
-        verdict: Verdict::Refused(paper::refuse(number, place)),
-    }
-}
-
-// "Refusals: 3 for sets, 21 for blocks, in that order"
-pub fn all_ways(sets: u8, blocks: &[u16]) -> WaysAnswer
+// "Refusals: 3 for sets, 21 for blocks, in that order, no count returned."
+pub fn all_ways(sets: u8, blocks: &[u16]) -> Result<[u64; 8], Refusal>
     ensures { result ≡ all_ways sets blocks.now }
 {
     if !paper::is_set_count(sets) {
-        return refused(3, 0);
+        return Err(paper::refuse(3, 0));
     }
     let at = trace::bad_access(blocks);
     if at < blocks.len() {
-        return refused(21, at);
+        return Err(paper::refuse(21, at));
     }
-    WaysAnswer {
-        counts: counts(sets, blocks),
-        verdict: Verdict::Accepted,
-    }
+    Ok(counts(sets, blocks))
 }

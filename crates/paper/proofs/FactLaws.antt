@@ -1,12 +1,12 @@
 -- What the rules 12, 14, 16 to 18, 24 and 25 say of a whole fact, both ways.
+use Rattle.std.specs.Prelude.{Ok}
 use Prim.Native.Nat.{ℕ, ◌+◌, ◌-◌, ◌≤◌, ◌<◌}
 use native.Mathlib.Omega.{arith}
 use mathlib.Core.Path.{◌≡◌, refl, ◌∙◌, ap, subst}
 use mathlib.Core.Logic.{◌⊎◌, inl, inr, ⊎_elim, ◌↔◌}
 use mathlib.Core.Bool.{Bool, true, false}
 use borrow.Author.Tests.{not-false}
-use Rattle.paper.specs.declared.Verdict.{Verdict}
-use Rattle.paper.specs.declared.Verdict.TheVariants.{Accepted}
+use Rattle.paper.specs.Answers.{Verdict}
 use Rattle.paper.specs.Machines.{none}
 use Rattle.paper.specs.Lists.{some}
 use Rattle.paper.specs.Cases.{Fact, Case, size, scope_of, row_of, fetches}
@@ -138,7 +138,7 @@ module _ (e : Case) (t : Fact) where
         many = λ j h. (says_false (many_says j)).1 (λ p. s.many (first + j) (within j h) p.0 (ap (λ (i : ℕ). (t.row i).number) (place j) ∙ p.1));
       }
 
-  pub evidence_kept : (i : ℕ) (rest : Verdict) → evidence_rules e i t rest ≡ Accepted → SoundEvidence e t × (rest ≡ Accepted)
+  pub evidence_kept : (i : ℕ) (rest : Verdict) → evidence_rules e i t rest ≡ Ok tt → SoundEvidence e t × (rest ≡ Ok tt)
   unfolding row_rules step_rules many_rules
   evidence_kept i rest h =
       let a = past_by _ _ _ h in

@@ -1,4 +1,5 @@
 -- What the remaining tests say: of a trace's accesses, a line size, the trailer, and the order of facts.
+use Rattle.std.specs.Prelude.{Option, Some, None}
 use Prim.Native.Nat.{ℕ, ◌+◌, ◌≤◌, ◌<◌}
 use mathlib.Core.Path.{◌≡◌, sym}
 use mathlib.Core.Bool.{true, false}
@@ -20,7 +21,7 @@ use Rattle.paper.specs.Ceilings.{most_nodes, most_edges, most_loops, most_facts}
 use Rattle.paper.specs.Records as Records
 use Rattle.paper.specs.Files.{u8_at, u32_at, end_at, letters, bad_letter, bad_letters, bad_numbers, edges_at, loops_at, facts_at, bad_offsets}
 use Rattle.paper.specs.Known.{Laid}
-use Rattle.paper.proofs.Says.{Says, holds, fails, says_bool, says_lt, says_le, says_eq, says_not, says_and, says_or, says_some, says_as, says_false, says_true}
+use Rattle.paper.proofs.Says.{Says, holds, fails, says_no, says_lt, says_le, says_eq, says_not, says_and, says_or, says_some, says_as, says_false, says_true}
 use Rattle.paper.proofs.States.{says_range}
 
 pub stands_says : (lines : List ℕ) (b : ℕ) → Says (Memᴰ b lines) (stands lines b)
@@ -97,8 +98,12 @@ laid f trailer long cache numbers offsets =
       cache = cache;
     }
 
--- 13
-pub order_says : (e : Case) (p : Previous) (t : Fact) →
-    Says ((p.any ≡ true) × ((t.block < p.block) ⊎ ((t.block ≡ p.block) × ((scope_of e t).first ≤ p.last)))) (bad_order e p t)
+-- 13: the fact stands before the one that it follows.
+abbrev pub Misplaced : Case → Option Previous → Fact → Type 0
+Misplaced e None t = ⊥
+Misplaced e (Some p) t = (t.block < p.block) ⊎ ((t.block ≡ p.block) × ((scope_of e t).first ≤ p.last))
+
+pub order_says : (e : Case) (p : Option Previous) (t : Fact) → Says (Misplaced e p t) (bad_order e p t)
 unfolding bad_order wrong_order
-order_says e p t = says_and (says_bool p.any) (says_or (says_lt _ _) (says_and (says_eq _ _) (says_le _ _)))
+order_says e None t = says_no
+order_says e (Some p) t = says_or (says_lt _ _) (says_and (says_eq _ _) (says_le _ _))

@@ -1,4 +1,5 @@
 -- The tests of rules 1 to 5 one by one: what a file that keeps them says of its trailer, and that it is judged by what follows them.
+use Rattle.std.specs.Prelude.{Ok}
 use Prim.Native.Nat.{ℕ, ◌+◌, ◌≤◌}
 use mathlib.Core.Path.{◌≡◌, refl}
 use mathlib.Core.Bool.{true, false, not}
@@ -7,8 +8,7 @@ use lib.Dec.{eqb, ltb}
 use lib.ListN.{length}
 use borrow.Author.Tests.{le-ltb, ltb-false, eqb-true, not-false}
 use Rattle.paper.specs.declared.Trailer.{Trailer}
-use Rattle.paper.specs.declared.Verdict.{Verdict}
-use Rattle.paper.specs.declared.Verdict.TheVariants.{Accepted}
+use Rattle.paper.specs.Answers.{Verdict}
 use Rattle.paper.specs.Machines.{in_range}
 use Rattle.paper.specs.Lists.{some}
 use Rattle.paper.specs.Records.{bad_version}
@@ -30,7 +30,7 @@ version_kept : (f : List ℕ) → bad_letters f ≡ false → bad_version (trail
 unfolding bad_letters trailer_of
 version_kept f h = (neither (some (bad_letter f) (length letters)) _ h).1
 
-pub tests_kept : (f : List ℕ) (rest : Verdict) → layout_rules f rest ≡ Accepted → KeptLayout f (trailer_of f)
+pub tests_kept : (f : List ℕ) (rest : Verdict) → layout_rules f rest ≡ Ok tt → KeptLayout f (trailer_of f)
 unfolding layout_rules bad_cache
 tests_kept f rest h =
     let a = past 1 0 (ltb (length f) 32) _ h in

@@ -1,4 +1,5 @@
 -- What the tests of the rules say, as propositions: of the graph, of a row, of an edge, of a fact, of a case. The theory speaks of these alone.
+use Rattle.std.specs.Prelude.{Option}
 use Prim.Native.Nat.{ℕ, zero, suc, ◌≤◌, ◌<◌}
 use mathlib.Core.Path.{◌≡◌}
 use mathlib.Core.Logic.{◌≢◌}
@@ -83,7 +84,7 @@ pub record Sound (e : Case) : Type 0 where
   pub facts : (i : ℕ) → i < e.facts → SoundFact e (e.fact i)
 
 -- what the fact before fact i is to it
-abbrev pub before_of : Case → ℕ → Previous
+abbrev pub before_of : Case → ℕ → Option Previous
 before_of e zero = none_previous
 before_of e (suc i) = previous_of e (e.fact i)
 

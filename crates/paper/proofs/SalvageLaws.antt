@@ -1,4 +1,5 @@
 -- What the request says of facts that are cut short and of the list, of the definitions.
+use Rattle.std.specs.Prelude.{Option}
 use Prim.Native.Nat.{ℕ, zero, suc, ◌+◌, ◌<◌}
 use native.Mathlib.Omega.{arith}
 use mathlib.Core.Path.{◌≡◌, refl, sym, ◌∙◌, ap}
@@ -33,14 +34,14 @@ module _ (f : List ℕ) (t : Trailer) where
   cut_next p h = ap (λ (b : Bool). cond b (end_at f) (fact_end f t p)) h
 
   -- where the facts end, none is left
-  end_turn : (i : ℕ) (previous : Previous) → turn_of f t i previous (end_at f) ≡ refused 11 i
+  end_turn : (i : ℕ) (previous : Option Previous) → turn_of f t i previous (end_at f) ≡ refused 11 i
   unfolding turn_rules
   end_turn i previous = rw (lt-ltb (end_at f) (end_at f + 6) (omega arith)) refl
 
   end_next : next_place f t (end_at f) ≡ end_at f
   end_next = cut_next (end_at f) (says_is (cut_says (end_at f)) (inl (omega arith)))
 
-  at_end : (n i : ℕ) (previous : Previous) → (kept_of (judged_from f t n i previous (end_at f)) ≡ []) × (dropped_of (judged_from f t n i previous (end_at f)) ≡ elevens i n)
+  at_end : (n i : ℕ) (previous : Option Previous) → (kept_of (judged_from f t n i previous (end_at f)) ≡ []) × (dropped_of (judged_from f t n i previous (end_at f)) ≡ elevens i n)
   unfolding judged_from
   at_end zero i previous = (refl, refl)
   at_end (suc n) i previous =
@@ -48,7 +49,7 @@ module _ (f : List ℕ) (t : Trailer) where
       (rw (end_turn i previous, end_next) r.0, rw (end_turn i previous, end_next) (ap {B = List Refusal} (λ l. refuse 11 i ∷ l) r.1))
 
   -- "drops everything from a fact cut short onward"; "facts after a cut one get 11"
-  pub after_cut : (p : ℕ) → cut_short f t p ≡ true → (n i : ℕ) (previous : Previous) →
+  pub after_cut : (p : ℕ) → cut_short f t p ≡ true → (n i : ℕ) (previous : Option Previous) →
       (kept_of (judged_from f t n i previous (next_place f t p)) ≡ []) × (dropped_of (judged_from f t n i previous (next_place f t p)) ≡ elevens i n)
   after_cut p h n i previous = rw (cut_next p h) (at_end n i previous)
 

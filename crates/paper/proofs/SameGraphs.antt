@@ -7,7 +7,7 @@ use mathlib.Core.Logic.{◌≢◌}
 use mathlib.Core.Bool.{Bool, ◌&&◌}
 use borrow.Author.Tests.{eq-eqb, ne_eqb}
 use lib.Dec.{eqb, ltb}
-use Rattle.paper.specs.declared.Verdict.{Verdict}
+use Rattle.paper.specs.Answers.{Verdict}
 use Rattle.paper.specs.Lists.{some, chain}
 use Rattle.paper.specs.Machines.{none}
 use Rattle.paper.specs.Cases.{Case, inside, range_of}

@@ -1,4 +1,5 @@
 -- What each chain of the verdict says of a file that passes it, and that it hands on to what follows.
+use Rattle.std.specs.Prelude.{Ok, Err, Option}
 use Prim.Native.Nat.{ℕ, zero, suc, ◌+◌, ◌≤◌, ◌<◌}
 use native.Mathlib.Omega.{arith}
 use native.Mathlib.Decide.{ℕ_discrete}
@@ -11,8 +12,7 @@ use borrow.Author.Tests.{le-ltb, ltb-false, not-false}
 use Rattle.paper.specs.declared.Refusal.{Refusal}
 use Rattle.paper.specs.declared.Trailer.{Trailer}
 use Rattle.paper.specs.declared.Previous.{Previous}
-use Rattle.paper.specs.declared.Verdict.{Verdict}
-use Rattle.paper.specs.declared.Verdict.TheVariants.{Accepted, Refused}
+use Rattle.paper.specs.Answers.{Verdict}
 use Rattle.paper.specs.Lists.{some}
 use Rattle.paper.specs.Cases.{Fact, Case, size, scope_of}
 use Rattle.paper.specs.Graphs.{bad_edge, bad_loop, bad_entry, bad_return, dead, bad_count}
@@ -29,7 +29,7 @@ use Rattle.paper.proofs.FactLaws.{head_sound, fetched, evidence_kept, evidence_l
 use Rattle.paper.proofs.FileLaws.{laid}
 
 module _ (f : List ℕ) where
-  pub layout_kept : (rest : Verdict) → layout_rules f rest ≡ Accepted → Laid f (trailer_of f) × (rest ≡ Accepted)
+  pub layout_kept : (rest : Verdict) → layout_rules f rest ≡ Ok tt → Laid f (trailer_of f) × (rest ≡ Ok tt)
   unfolding layout_rules bad_cache
   layout_kept rest h =
       let a = past 1 0 (ltb (length f) 32) _ h in
@@ -48,14 +48,14 @@ module _ (f : List ℕ) where
       (hands_then _ _ (hands_rule 4 0 (bad_numbers (trailer_of f))) (hands_rule 5 0 (bad_offsets f (trailer_of f))))))
 
 module _ (e : Case) where
-  pub shape_kept : (rest : Verdict) → shape_rules e rest ≡ Accepted → Shaped e × (rest ≡ Accepted)
+  pub shape_kept : (rest : Verdict) → shape_rules e rest ≡ Ok tt → Shaped e × (rest ≡ Ok tt)
   unfolding shape_rules
   shape_kept rest h =
       let a = past 6 _ _ _ h in
       let b = past 7 _ _ _ a.1 in
       (shaped e (none_some _ _ a.0) (none_some _ _ b.0), b.1)
 
-  pub graph_kept : (rest : Verdict) → graph_rules e rest ≡ Accepted → Shaped e × SoundGraph e × (rest ≡ Accepted)
+  pub graph_kept : (rest : Verdict) → graph_rules e rest ≡ Ok tt → Shaped e × SoundGraph e × (rest ≡ Ok tt)
   unfolding path_rules count_rules
   graph_kept rest h =
       let s = shape_kept _ h in
@@ -90,14 +90,14 @@ module _ (e : Case) where
 
 module _ (f : List ℕ) (trailer : Trailer) where
   -- The fact that stands at p passes its turn after `previous`: 11 to 18, 24 and 25.
-  pub record KeptTurn (previous : Previous) (p : ℕ) : Type 0 where
+  pub record KeptTurn (previous : Option Previous) (p : ℕ) : Type 0 where
     pub head : bad_head (case_of f trailer) (fact_at f p) ≡ false
     pub order : bad_order (case_of f trailer) previous (fact_at f p) ≡ false
     pub fetched : unfetched (case_of f trailer) (fact_at f p) ≡ false
     pub room : fact_end f trailer p ≤ end_at f
     pub evidence : SoundEvidence (case_of f trailer) (fact_at f p)
 
-  pub turn_tests : (i : ℕ) (previous : Previous) (p : ℕ) (rest : Verdict) → turn_rules f trailer i previous p rest ≡ Accepted → KeptTurn previous p × (rest ≡ Accepted)
+  pub turn_tests : (i : ℕ) (previous : Option Previous) (p : ℕ) (rest : Verdict) → turn_rules f trailer i previous p rest ≡ Ok tt → KeptTurn previous p × (rest ≡ Ok tt)
   unfolding turn_rules head_rule order_rule body_rules fetch_rule
   turn_tests i previous p rest h =
       let a = past 11 i (ltb (end_at f) (p + 6)) _ h in
@@ -113,7 +113,7 @@ module _ (f : List ℕ) (trailer : Trailer) where
   unfolding fact_end
   end_after p = omega arith
 
-  pub turn_passes : (i : ℕ) (previous : Previous) (p : ℕ) → KeptTurn previous p → Passes (turn_rules f trailer i previous p)
+  pub turn_passes : (i : ℕ) (previous : Option Previous) (p : ℕ) → KeptTurn previous p → Passes (turn_rules f trailer i previous p)
   unfolding turn_rules head_rule order_rule body_rules fetch_rule
   turn_passes i previous p k =
       rw (
@@ -130,20 +130,20 @@ module _ (f : List ℕ) (trailer : Trailer) where
     pub room : fact_end f trailer p ≤ end_at f
     pub sound : SoundFact (case_of f trailer) (fact_at f p)
 
-  kept_fact : (previous : Previous) (p : ℕ) → KeptTurn previous p → KeptFact p
+  kept_fact : (previous : Option Previous) (p : ℕ) → KeptTurn previous p → KeptFact p
   kept_fact previous p k =
       let e = case_of f trailer in
       let t = fact_at f p in
       record { room = k.room; sound = record { head = head_sound e t k.head; fetched = fetched e t k.fetched; evidence = k.evidence } }
 
-  pub turn_kept : (i : ℕ) (previous : Previous) (p : ℕ) (rest : Verdict) → turn_rules f trailer i previous p rest ≡ Accepted → KeptFact p × (rest ≡ Accepted)
+  pub turn_kept : (i : ℕ) (previous : Option Previous) (p : ℕ) (rest : Verdict) → turn_rules f trailer i previous p rest ≡ Ok tt → KeptFact p × (rest ≡ Ok tt)
   turn_kept i previous p rest h = let k = turn_tests i previous p rest h in (kept_fact previous p k.0, k.1)
 
-  abbrev before : ℕ → Previous
+  abbrev before : ℕ → Option Previous
   before = before_of (case_of f trailer)
 
-  turns_tests : (n i : ℕ) (rest : Verdict) → turns_from f trailer n i (before i) (fact_place f trailer i) rest ≡ Accepted →
-      ((k : ℕ) → i ≤ k → k < i + n → KeptTurn (before k) (fact_place f trailer k)) × (rest ≡ Accepted)
+  turns_tests : (n i : ℕ) (rest : Verdict) → turns_from f trailer n i (before i) (fact_place f trailer i) rest ≡ Ok tt →
+      ((k : ℕ) → i ≤ k → k < i + n → KeptTurn (before k) (fact_place f trailer k)) × (rest ≡ Ok tt)
   unfolding turns_from fact_place case_of
   turns_tests zero i rest h = (λ k l q. absurd (omega arith), h)
   turns_tests (suc n) i rest h =
@@ -153,16 +153,16 @@ module _ (f : List ℕ) (trailer : Trailer) where
         b.1,
       )
 
-  facts_tests : (rest : Verdict) → fact_rules f trailer rest ≡ Accepted → (i : ℕ) → i < trailer.facts → KeptTurn (before i) (fact_place f trailer i)
+  facts_tests : (rest : Verdict) → fact_rules f trailer rest ≡ Ok tt → (i : ℕ) → i < trailer.facts → KeptTurn (before i) (fact_place f trailer i)
   unfolding fact_rules fact_place
   facts_tests rest h i l = (turns_tests trailer.facts 0 _ h).0 i (omega arith) (omega arith)
 
-  pub facts_kept : (rest : Verdict) → fact_rules f trailer rest ≡ Accepted → (i : ℕ) → i < trailer.facts → KeptFact (fact_place f trailer i)
+  pub facts_kept : (rest : Verdict) → fact_rules f trailer rest ≡ Ok tt → (i : ℕ) → i < trailer.facts → KeptFact (fact_place f trailer i)
   facts_kept rest h i l = kept_fact (before i) (fact_place f trailer i) (facts_tests rest h i l)
 
-  pub facts_ordered : fact_rules f trailer Accepted ≡ Accepted → Ordered (case_of f trailer)
+  pub facts_ordered : fact_rules f trailer (Ok tt) ≡ Ok tt → Ordered (case_of f trailer)
   unfolding case_of
-  facts_ordered h i l = (facts_tests Accepted h i l).order
+  facts_ordered h i l = (facts_tests (Ok tt) h i l).order
 
   pub hands_body : (i p : ℕ) → Hands (body_rules f trailer i p)
   unfolding body_rules fetch_rule
@@ -170,7 +170,7 @@ module _ (f : List ℕ) (trailer : Trailer) where
       hands_then _ _ (hands_rule 14 i (unfetched (case_of f trailer) (fact_at f p)))
       (hands_then _ _ (hands_rule 15 i (ltb (end_at f) (fact_end f trailer p))) (hands_evidence (case_of f trailer) i (fact_at f p)))
 
-  pub hands_turn : (i : ℕ) (previous : Previous) (p : ℕ) → Hands (turn_rules f trailer i previous p)
+  pub hands_turn : (i : ℕ) (previous : Option Previous) (p : ℕ) → Hands (turn_rules f trailer i previous p)
   unfolding turn_rules head_rule order_rule
   hands_turn i previous p =
       hands_then _ _ (hands_rule 11 i (ltb (end_at f) (p + 6)))
@@ -178,18 +178,18 @@ module _ (f : List ℕ) (trailer : Trailer) where
       (hands_then _ _ (hands_rule 13 i (bad_order (case_of f trailer) previous (fact_at f p))) (hands_body i p)))
 
   -- the verdict of one turn is v: where it accepts it is the next fact's turn
-  module _ (n i : ℕ) (previous : Previous) (p : ℕ) (rest v : Verdict) (a : v ≡ turn_rules f trailer i previous p Accepted) where
-    pub turns_on : v ≡ Accepted →
+  module _ (n i : ℕ) (previous : Option Previous) (p : ℕ) (rest v : Verdict) (a : v ≡ turn_rules f trailer i previous p (Ok tt)) where
+    pub turns_on : v ≡ Ok tt →
         turns_from f trailer (suc n) i previous p rest ≡ turns_from f trailer n (suc i) (previous_of (case_of f trailer) (fact_at f p)) (fact_end f trailer p) rest
     unfolding turns_from
     turns_on e = accepted_on (turn_rules f trailer i previous p) (hands_turn i previous p) _ v a e
 
-    pub turns_stop : (r : Refusal) → v ≡ Refused r → turns_from f trailer (suc n) i previous p rest ≡ Refused r
+    pub turns_stop : (r : Refusal) → v ≡ Err r → turns_from f trailer (suc n) i previous p rest ≡ Err r
     unfolding turns_from
     turns_stop r e = refused_on (turn_rules f trailer i previous p) (hands_turn i previous p) _ v a r e
 
 -- An accepted file holds a sound case.
-pub file_sound : (f : List ℕ) → file_verdict f ≡ Accepted → Laid f (trailer_of f) × Sound (read_case f)
+pub file_sound : (f : List ℕ) → file_verdict f ≡ Ok tt → Laid f (trailer_of f) × Sound (read_case f)
 unfolding case_of
 file_sound f h =
     let a = layout_kept f _ h in
@@ -199,13 +199,13 @@ file_sound f h =
         cache = a.0.cache;
         nodes = a.0.nodes_low;
         graph = b.1;
-        facts = λ i l. (facts_kept f (trailer_of f) Accepted b.2 i l).sound;
+        facts = λ i l. (facts_kept f (trailer_of f) (Ok tt) b.2 i l).sound;
       },
     )
 
-pub file_ordered : (f : List ℕ) → file_verdict f ≡ Accepted → Ordered (read_case f)
+pub file_ordered : (f : List ℕ) → file_verdict f ≡ Ok tt → Ordered (read_case f)
 file_ordered f h = facts_ordered f (trailer_of f) (graph_kept (read_case f) _ (layout_kept f _ h).1).2
 
-pub enough : (f : List ℕ) (room : ℕ) → verdict f room ≡ Accepted → file_verdict f ≡ Accepted
+pub enough : (f : List ℕ) (room : ℕ) → verdict f room ≡ Ok tt → file_verdict f ≡ Ok tt
 unfolding verdict
 enough f room h = (past 20 0 (ltb room 321) _ h).1

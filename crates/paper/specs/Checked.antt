@@ -1,10 +1,9 @@
 -- "Checked numbers", those marked P, as a single list with one evaluator.
-use Rattle.std.specs.Prelude.{ℕ, Bool, true, false, ◌&&◌, List, [], ◌∷◌, ◌++◌, eqb, drop, replicate, set}
+use Rattle.std.specs.Prelude.{ℕ, Bool, true, false, ◌&&◌, List, [], ◌∷◌, ◌++◌, eqb, drop, replicate, set, Ok, Err}
 use Prim.Native.String.{String}
 use Rattle.paper.specs.declared.SetState.{SetState}
 use Rattle.paper.specs.declared.Stepped.{Stepped}
-use Rattle.paper.specs.declared.Verdict.{Verdict}
-use Rattle.paper.specs.declared.Verdict.TheVariants.{Accepted, Refused}
+use Rattle.paper.specs.Answers.{Verdict}
 use Rattle.paper.specs.Machines.{none, step}
 use Rattle.paper.specs.Bounds.{g, bound_of, floor_of}
 use Rattle.paper.specs.Verdicts.{verdict, lent_after}
@@ -59,8 +58,8 @@ same_step t hit s = same_bool t.hit hit && (same_list t.state.lines s.lines && e
 
 -- 321 numbers of a lent list of 322, each 7 before the check
 abbrev pub listed : Verdict → List ℕ → ℕ → List ℕ
-listed Accepted f p = lent_after f p (replicate 322 7) Accepted
-listed (Refused r) f p = []
+listed (Ok tt) f p = lent_after f p (replicate 322 7) (Ok tt)
+listed (Err r) f p = []
 
 abbrev pub holds_at : Checked → Bool
 holds_at (is_g k l n) = eqb (g k l) n

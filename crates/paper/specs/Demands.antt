@@ -1,5 +1,5 @@
 -- Demand 3, both halves.
-use Rattle.std.specs.Prelude.{ℕ, ◌+◌, ◌*◌, ◌%◌, ◌≤◌, ◌<◌, ◌≡◌, ◌≢◌, ◌↔◌, true, false, length, get_or}
+use Rattle.std.specs.Prelude.{ℕ, ◌+◌, ◌*◌, ◌%◌, ◌≤◌, ◌<◌, ◌≡◌, ◌≢◌, ◌↔◌, true, false, length, get_or, Ok}
 use mathlib.Core.List.{List, [], ◌∷◌, Memᴰ}
 use Rattle.paper.specs.Machines.{none}
 use Rattle.paper.specs.Traces.{Content}
@@ -10,7 +10,6 @@ use Rattle.paper.specs.Facts.{bad_head, unfetched}
 use Rattle.paper.specs.Bounds.{list_length, sets_from, facts_from}
 use Rattle.paper.specs.Records.{row_size}
 use Rattle.paper.specs.Files.{row_at, read_case}
-use Rattle.paper.specs.declared.Verdict.TheVariants.{Accepted}
 use Rattle.paper.specs.Rules.{Passes}
 use Rattle.paper.specs.Verdicts.{evidence_rules, whole_file_rules, verdict}
 use Rattle.paper.specs.OneFact.{file_with}
@@ -98,7 +97,7 @@ module _ (e : Case) (t : Fact) where
 pub record AcceptedEvidence (f : List ℕ) (t : Fact) (room : ℕ) : Type 0 where
   pub rows : List ℕ
   pub bytes : Bytes (file_with f t rows)
-  pub accepted : verdict (file_with f t rows) room ≡ Accepted
+  pub accepted : verdict (file_with f t rows) room ≡ Ok tt
 
 -- "for an otherwise sound fact, evidence that the tool accepts exists exactly when …": "one that passes 12 to 14 in a file that passes 1 to 10", and since request 5 also 26
 -- (13 compares it with the fact before it, and plays no part).

@@ -1,5 +1,5 @@
 -- "Facts and their evidence": a fact's head, its rows and the edge rule, as the rules 12 to 14, 16 to 18, 24 and 25 test them.
-use Rattle.std.specs.Prelude.{ℕ, ◌+◌, ◌-◌, Bool, true, false, cond, not, ◌&&◌, ◌||◌, eqb, ltb, leb}
+use Rattle.std.specs.Prelude.{ℕ, ◌+◌, ◌-◌, Bool, false, cond, not, ◌&&◌, ◌||◌, eqb, ltb, leb, Option, Some, None}
 use Rattle.paper.specs.declared.Previous.{Previous}
 use Rattle.paper.specs.Lists.{least, some}
 use Rattle.paper.specs.Machines.{none}
@@ -22,12 +22,13 @@ unfoldable pub wrong_head : ℕ → ℕ → ℕ → ℕ → ℕ → Bool
 wrong_head loops ways w b l = wrong_scope loops w || (eqb b none || (ltb l 1 || ltb ways l))
 
 -- 13: "block below the previous fact's, or equal and its scope starts at or before the previous scope's last node", of the block b and a scope that starts at `first`
-unfoldable pub wrong_order : Previous → ℕ → ℕ → Bool
-wrong_order previous b first = previous.any && (ltb b previous.block || (eqb b previous.block && leb first previous.last))
+unfoldable pub wrong_order : Option Previous → ℕ → ℕ → Bool
+wrong_order None b first = false
+wrong_order (Some previous) b first = ltb b previous.block || (eqb b previous.block && leb first previous.last)
 
 -- the first fact comes after none
-abbrev pub none_previous : Previous
-none_previous = record { any = false; block = 0; last = 0 }
+abbrev pub none_previous : Option Previous
+none_previous = None
 
 module _ (e : Case) where
   -- 12
@@ -35,11 +36,11 @@ module _ (e : Case) where
   bad_head t = wrong_head e.loops e.ways t.scope t.block t.limit
 
   -- what a fact is to the one after it
-  abbrev pub previous_of : Fact → Previous
-  previous_of t = record { any = true; block = t.block; last = (scope_of e t).last }
+  abbrev pub previous_of : Fact → Option Previous
+  previous_of t = Some (record { block = t.block; last = (scope_of e t).last })
 
   -- 13
-  unfoldable pub bad_order : Previous → Fact → Bool
+  unfoldable pub bad_order : Option Previous → Fact → Bool
   bad_order previous t = wrong_order previous t.block (scope_of e t).first
 
   module _ (t : Fact) where

@@ -1,10 +1,8 @@
 -- "Find the facts ourselves": the fact that is sought, the refusals, and what is found, by what walks gather.
-use Rattle.std.specs.Prelude.{ℕ, suc, ◌*◌, ◌≤◌, ◌<◌, ◌≡◌, ◌≢◌, ◌↔◌, true, false, ltb, length, drop}
+use Rattle.std.specs.Prelude.{ℕ, suc, ◌*◌, ◌≤◌, ◌<◌, ◌≡◌, ◌≢◌, ◌↔◌, true, false, ltb, length, drop, Ok, Err}
 use mathlib.Core.List.{List, [], ◌∷◌, ◌++◌, Memᴰ}
 use Rattle.paper.specs.declared.Refusal.{Refusal}
-use Rattle.paper.specs.declared.Verdict.{Verdict}
-use Rattle.paper.specs.declared.Verdict.TheVariants.{Accepted, Refused}
-use Rattle.paper.specs.Answers.{Told, tells, tells_why}
+use Rattle.paper.specs.Answers.{Verdict, Told, tells, tells_why}
 use Rattle.paper.specs.Machines.{none}
 use Rattle.paper.specs.Cases.{Row, Fact, Case, inside, size, scope_of, row_of}
 use Rattle.paper.specs.Facts.{holds, bad_row}
@@ -60,11 +58,11 @@ module _ (e : Case) (t : Fact) where
 
 -- "Refusals: 1 to 10 and 26 for the graph", then those of what is sought. The file's facts are not looked at.
 unfoldable pub find_verdict : List ℕ → ℕ → ℕ → ℕ → Verdict
-find_verdict f scope block room = whole_file_rules f (sought_rules (read_case f) (sought (read_case f) scope block) room Accepted)
+find_verdict f scope block room = whole_file_rules f (sought_rules (read_case f) (sought (read_case f) scope block) room (Ok tt))
 
 -- The tool accepts these bytes as evidence: the file with f's graph and this fact alone, with them as its rows, is accepted.
 abbrev pub Takes : List ℕ → Fact → List ℕ → Type 0
-Takes f t bytes = file_verdict (file_with f t bytes) ≡ Accepted
+Takes f t bytes = file_verdict (file_with f t bytes) ≡ Ok tt
 
 -- No limit below l has acceptable evidence.
 abbrev pub NoneBelow : List ℕ → Fact → ℕ → Type 0
@@ -90,7 +88,7 @@ module _ (f : List ℕ) (scope block : ℕ) (lent : List ℕ) where
 
   -- "With 'none', as with a refusal, the lent rows stay as they were; room past the rows always does."
   pub data FindOutcome : Told → List ℕ → Type 0 where
-    refused : (r : Refusal) → Judged (Refused r) → FindOutcome (tells_why r) lent
+    refused : (r : Refusal) → Judged (Err r) → FindOutcome (tells_why r) lent
     -- "It answers 'none' exactly when no limit up to k has acceptable evidence."
-    nothing : Judged Accepted → NoneBelow f (sought (read_case f) scope block) (suc (read_case f).ways) → FindOutcome (tells []) lent
-    found : Judged Accepted → (l : ℕ) (rows : List ℕ) → Finds f (sought (read_case f) scope block) l rows → FindOutcome (tells (l ∷ [])) (rows ++ drop (length rows) lent)
+    nothing : Judged (Ok tt) → NoneBelow f (sought (read_case f) scope block) (suc (read_case f).ways) → FindOutcome (tells []) lent
+    found : Judged (Ok tt) → (l : ℕ) (rows : List ℕ) → Finds f (sought (read_case f) scope block) l rows → FindOutcome (tells (l ∷ [])) (rows ++ drop (length rows) lent)

@@ -3,6 +3,7 @@ pub mod Lists
 pub mod Steps
 pub mod Trees
 pub mod Policies
+pub mod PolicyNumbers
 pub mod Machines
 pub mod Operations
 pub mod Traces

@@ -1,12 +1,10 @@
 -- "A file and its listing": the bytes that the program prints. "Each line: word, number of the set or fact, bound. Every set up to S is listed. A refusal prints `refused`, number, place."
-use Rattle.std.specs.Prelude.{ℕ, zero, suc, ◌+◌, ◌/◌, ◌%◌, cond, List, [], ◌∷◌, ◌++◌, ltb, length}
+use Rattle.std.specs.Prelude.{ℕ, zero, suc, ◌+◌, ◌/◌, ◌%◌, cond, List, [], ◌∷◌, ◌++◌, ltb, length, Ok, Err}
 use Prim.Native.Char.{code}
 use Prim.Native.String.{String}
 use Prim.Native.String as Text
 use Rattle.paper.specs.declared.Refusal.{Refusal}
-use Rattle.paper.specs.declared.Verdict.{Verdict}
-use Rattle.paper.specs.declared.Verdict.TheVariants.{Accepted, Refused}
-use Rattle.paper.specs.Answers.{refuse}
+use Rattle.paper.specs.Answers.{Verdict, refuse}
 use Rattle.paper.specs.Cases.{Case}
 use Rattle.paper.specs.Bounds.{list_length, fact_bound, set_bound, total_bound}
 use Rattle.paper.specs.Ceilings.{longest_input}
@@ -58,8 +56,8 @@ abbrev pub accepted : Case → ℕ → List ℕ
 accepted e p = bound_lines (total_bound e p) (set_bound e p) e.sets (λ i. fact_bound e p (e.fact i)) e.facts
 
 abbrev pub printed : List ℕ → ℕ → Verdict → List ℕ
-printed file p Accepted = accepted (read_case file) p
-printed file p (Refused r) = refusal_line r
+printed file p (Ok tt) = accepted (read_case file) p
+printed file p (Err r) = refusal_line r
 
 -- "the program reads at most 65,536 bytes and prints `refused 28 0` for longer input", since the second place `refused 28 0 0`
 unfoldable pub listing_of : List ℕ → ℕ → List ℕ

@@ -1,12 +1,9 @@
 -- "Salvage a file with bad facts": which facts are kept and which are dropped, the file that is written, the list of dropped facts, and the refusals.
-use Rattle.std.specs.Prelude.{ℕ, zero, suc, ◌-◌, ◌≤◌, ◌<◌, ◌≡◌, Bool, cond, ◌||◌, List, [], ◌∷◌, ◌++◌, ltb, length, get_or, drop}
+use Rattle.std.specs.Prelude.{ℕ, zero, suc, ◌-◌, ◌≤◌, ◌<◌, ◌≡◌, Bool, cond, ◌||◌, List, [], ◌∷◌, ◌++◌, ltb, length, get_or, drop, Result, Ok, Err, Option}
 use Rattle.paper.specs.declared.Refusal.{Refusal}
 use Rattle.paper.specs.declared.Trailer.{Trailer}
 use Rattle.paper.specs.declared.Previous.{Previous}
-use Rattle.paper.specs.declared.Verdict.{Verdict}
-use Rattle.paper.specs.declared.Verdict.TheVariants.{Accepted, Refused}
-use Rattle.paper.specs.declared.SalvageAnswer.{SalvageAnswer}
-use Rattle.paper.specs.declared.SalvageAnswer.TheVariants as SalvageAnswers
+use Rattle.paper.specs.Answers.{Verdict}
 use Rattle.paper.specs.Lists.{part}
 use Rattle.paper.specs.Cases.{Case}
 use Rattle.paper.specs.Facts.{none_previous, previous_of, wrong_scope}
@@ -16,6 +13,7 @@ use Rattle.paper.specs.Rules.{rule, Passes}
 use Rattle.paper.specs.Verdicts.{turn_rules, whole_file_rules, file_verdict}
 use Rattle.paper.specs.OneFact.{graph_bytes, with_facts}
 use Rattle.paper.specs.Demands.{Bytes}
+use Rattle.paper.specs.declared.Salvage.{Salvage}
 
 -- A fact's turn: where the fact stands, and what the turn came to.
 pub record Judgement : Type 0 where
@@ -32,16 +30,16 @@ module _ (f : List ℕ) (trailer : Trailer) where
   next_place p = cond (cut_short p) (end_at f) (fact_end f trailer p)
 
   -- 11 to 18, as in the check: "each with the first number it earns"
-  abbrev pub turn_of : ℕ → Previous → ℕ → Verdict
-  turn_of i previous p = turn_rules f trailer i previous p Accepted
+  abbrev pub turn_of : ℕ → Option Previous → ℕ → Verdict
+  turn_of i previous p = turn_rules f trailer i previous p (Ok tt)
 
   -- "An order fault (13) is judged against the last fact kept."
-  abbrev pub last_kept : Verdict → Previous → ℕ → Previous
-  last_kept Accepted previous p = previous_of (case_of f trailer) (fact_at f p)
-  last_kept (Refused r) previous p = previous
+  abbrev pub last_kept : Verdict → Option Previous → ℕ → Option Previous
+  last_kept (Ok tt) previous p = previous_of (case_of f trailer) (fact_at f p)
+  last_kept (Err r) previous p = previous
 
   -- n facts, from fact i on, which stands at p
-  unfoldable pub judged_from : ℕ → ℕ → Previous → ℕ → List Judgement
+  unfoldable pub judged_from : ℕ → ℕ → Option Previous → ℕ → List Judgement
   judged_from zero i previous p = []
   judged_from (suc n) i previous p =
       let v = turn_of i previous p in
@@ -60,8 +58,8 @@ module _ (f : List ℕ) (trailer : Trailer) where
 
 -- where the facts stand that are kept
 abbrev pub keep_if : Verdict → ℕ → List ℕ → List ℕ
-keep_if Accepted p rest = p ∷ rest
-keep_if (Refused r) p rest = rest
+keep_if (Ok tt) p rest = p ∷ rest
+keep_if (Err r) p rest = rest
 
 abbrev pub kept_of : List Judgement → List ℕ
 kept_of [] = []
@@ -69,8 +67,8 @@ kept_of (j ∷ rest) = keep_if j.verdict j.place (kept_of rest)
 
 -- why the others are dropped, "each with the first number it earns and places"
 abbrev pub drop_if : Verdict → List Refusal → List Refusal
-drop_if Accepted rest = rest
-drop_if (Refused r) rest = r ∷ rest
+drop_if (Ok tt) rest = rest
+drop_if (Err r) rest = r ∷ rest
 
 abbrev pub dropped_of : List Judgement → List Refusal
 dropped_of [] = []
@@ -97,21 +95,21 @@ module _ (f : List ℕ) where
 
   -- "Refusals: 1 to 10 and 26 as in the check, then 20 if file or list does not fit."
   unfoldable pub salvage_verdict : ℕ → ℕ → Verdict
-  salvage_verdict room list_room = whole_file_rules f (rule 20 0 (ltb room (length salvaged) || ltb list_room (length dropped_list)) Accepted)
+  salvage_verdict room list_room = whole_file_rules f (rule 20 0 (ltb room (length salvaged) || ltb list_room (length dropped_list)) (Ok tt))
 
-  abbrev pub salvage_answer : Verdict → SalvageAnswer
-  salvage_answer Accepted = SalvageAnswers.Salvaged (record { length = length salvaged; dropped = length dropped })
-  salvage_answer (Refused r) = SalvageAnswers.Refused r
+  abbrev pub salvage_answer : Verdict → Result Salvage Refusal
+  salvage_answer (Ok tt) = Ok (record { length = length salvaged; dropped = length dropped })
+  salvage_answer (Err r) = Err r
 
 -- What is lent, afterwards: what is written stands first, and "room past the end stays"; on a refusal all stays.
 abbrev pub lent_by : List ℕ → List ℕ → Verdict → List ℕ
-lent_by written lent Accepted = written ++ drop (length written) lent
-lent_by written lent (Refused r) = lent
+lent_by written lent (Ok tt) = written ++ drop (length written) lent
+lent_by written lent (Err r) = lent
 
 -- What is promised of the file g that is salvaged from f.
 pub record Salvages (f g : List ℕ) : Type 0 where
   -- "The result is accepted"
-  pub accepted : file_verdict g ≡ Accepted
+  pub accepted : file_verdict g ≡ Ok tt
   -- "holds every kept fact unchanged"
   pub graph : graph_bytes g ≡ graph_bytes f
   pub facts : (trailer_of g).facts ≡ length (kept f)
@@ -122,7 +120,7 @@ pub record Salvages (f g : List ℕ) : Type 0 where
   -- "has the first file's version"
   pub version : (trailer_of g).version ≡ (trailer_of f).version
   -- "and when the first file was already sound it is the same file"
-  pub same : file_verdict f ≡ Accepted → g ≡ f
+  pub same : file_verdict f ≡ Ok tt → g ≡ f
   -- so salvaging twice changes nothing
   pub again : salvaged g ≡ g
 
@@ -156,4 +154,4 @@ pub record RaisesBounds (e d : Case) : Type 0 where
   pub total : (p : ℕ) → total_bound e p ≤ total_bound d p
 
 abbrev pub RemovalHolds : List ℕ → Type 0
-RemovalHolds f = file_verdict f ≡ Accepted → (r : ℕ) → r < (read_case f).facts → RaisesBounds (read_case f) (without_fact (read_case f) r)
+RemovalHolds f = file_verdict f ≡ Ok tt → (r : ℕ) → r < (read_case f).facts → RaisesBounds (read_case f) (without_fact (read_case f) r)

@@ -1,11 +1,10 @@
--- A step's parts: which lines stay where they are when a block comes in, the line that an access goes to with the bits after it, and a block's set without a division.
-use Rattle.std.specs.Prelude.{ℕ, ◌+◌, ◌-◌, ◌/◌, ◌%◌, ◌^◌, ◌<◌, ◌≡◌, cond, List, eqb, ltb}
+-- A step's parts: which lines stay where they are when a block comes in, and the line that an access goes to with the bits after it.
+use Rattle.std.specs.Prelude.{ℕ, ◌-◌, ◌%◌, ◌^◌, ◌<◌, ◌≡◌, cond, List, eqb, ltb}
 use Rattle.std.specs.Int.Bits.{bit_or}
 use Rattle.lines.specs.Lines.{kept_after}
 use Rattle.paper.specs.declared.SetState.{SetState}
 use Rattle.paper.specs.declared.Line.{Line}
 use Rattle.paper.specs.declared.Shift.{Shift}
-use Rattle.paper.specs.declared.Sets.{Sets}
 use Rattle.paper.specs.Lists.{table}
 use Rattle.paper.specs.Machines.{none, hits, nmru_line}
 
@@ -33,7 +32,3 @@ shift_by beyond w = record { beyond = beyond; weight = w; kept = kept_after w be
 -- What LRU moves in a set of k ways where the block's line has weight w.
 abbrev pub shift_at : ℕ → ℕ → Shift
 shift_at k w = shift_by (kept_from k) w
-
--- S, and 2^32 / S rounded up.
-abbrev pub sets_of : ℕ → Sets
-sets_of s = record { count = s; inverse = (4294967295 + s) / s }

@@ -1,10 +1,7 @@
 -- Cycles: the longest way through each loop, inner loops first, and through the graph.
 -- "Inside a loop, the longest way from the header along forward edges, each inner loop taken as one step of its own time, times B, is the loop's time for one entry."
-use Rattle.std.specs.Prelude.{ℕ, suc, ◌+◌, ◌-◌, ◌*◌, ◌≤◌, ◌<◌, max, ◌≡◌, true, cond, not, ◌&&◌, List, [], ◌∷◌, eqb, ltb, leb, length, get_or}
-use Rattle.paper.specs.declared.Verdict.{Verdict}
-use Rattle.paper.specs.declared.Verdict.TheVariants.{Accepted, Refused}
-use Rattle.paper.specs.declared.TimeAnswer.{TimeAnswer}
-use Rattle.paper.specs.declared.TimeAnswer.TheVariants as TimeAnswers
+use Rattle.std.specs.Prelude.{ℕ, suc, ◌+◌, ◌-◌, ◌*◌, ◌≤◌, ◌<◌, max, ◌≡◌, true, cond, not, ◌&&◌, List, [], ◌∷◌, eqb, ltb, leb, length, get_or, Result, Ok, Err}
+use Rattle.paper.specs.Answers.{Verdict}
 use Rattle.paper.specs.Rules.{rule, follow}
 use Rattle.paper.specs.Lists.{least, bit, highest_to, in_turn}
 use Rattle.paper.specs.Traces.{Content}
@@ -14,6 +11,7 @@ use Rattle.paper.specs.Runs.{LegalContent, Event, walk_of, interruptions, run, m
 use Rattle.paper.specs.Bounds.{total_bound}
 use Rattle.paper.specs.Files.{read_case}
 use Rattle.paper.specs.Verdicts.{file_verdict}
+use Rattle.paper.specs.declared.Refusal.{Refusal}
 
 -- "the sum of its node costs"
 abbrev pub spent : (ℕ → ℕ) → List ℕ → ℕ
@@ -92,9 +90,9 @@ most_time = 9223372036854775807
 unfoldable pub time_rules : ℕ → ℕ → ℕ → Verdict → Verdict
 time_rules nodes costs time rest = rule 20 0 (not (eqb costs nodes)) (rule 27 0 (ltb most_time time) rest)
 
-abbrev pub time_answer : Verdict → ℕ → TimeAnswer
-time_answer Accepted time = TimeAnswers.Time time
-time_answer (Refused r) time = TimeAnswers.Refused r
+abbrev pub time_answer : Verdict → ℕ → Result ℕ Refusal
+time_answer (Ok tt) time = Ok time
+time_answer (Err r) time = Err r
 
 -- "With a 32-bit cost for each node and a 32-bit penalty for each miss, give a time for the whole graph": that of a file, "for the given p".
 module _ (f costs : List ℕ) (penalty p : ℕ) where
@@ -103,10 +101,10 @@ module _ (f costs : List ℕ) (penalty p : ℕ) where
 
   -- the refusals, "the check's own but its 20" first
   unfoldable pub time_verdict : Verdict
-  time_verdict = follow (file_verdict f) (time_rules (read_case f).nodes (length costs) file_time Accepted)
+  time_verdict = follow (file_verdict f) (time_rules (read_case f).nodes (length costs) file_time (Ok tt))
 
   -- "Only the time is returned."
-  unfoldable pub file_time_answer : TimeAnswer
+  unfoldable pub file_time_answer : Result ℕ Refusal
   file_time_answer = time_answer time_verdict file_time
 
 -- "For every walk of demand 3, the sum of its node costs and penalties is no larger": every placing of at most p interruptions, and any legal content after each.

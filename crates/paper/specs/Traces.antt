@@ -1,11 +1,10 @@
 -- The contents of all sets, and the trace run. "Trace run: 3, 20, 21."
-use Rattle.std.specs.Prelude.{ℕ, ◌+◌, ◌%◌, Bool, cond, not, List, [], ◌∷◌, ◌++◌, eqb, ltb, length, get_or, drop}
+use Rattle.std.specs.Prelude.{ℕ, ◌+◌, ◌%◌, Bool, cond, not, List, [], ◌∷◌, ◌++◌, eqb, ltb, length, get_or, drop, Result, Ok, Err}
 use Rattle.paper.specs.declared.SetState.{SetState}
-use Rattle.paper.specs.declared.TraceAnswer.{TraceAnswer}
-use Rattle.paper.specs.declared.TraceAnswer.TheVariants.{Misses, Refused}
 use Rattle.paper.specs.Answers.{refuse}
 use Rattle.paper.specs.Lists.{bit, least, some}
 use Rattle.paper.specs.Machines.{none, empty_set, step, in_range}
+use Rattle.paper.specs.declared.Refusal.{Refusal}
 
 -- A state for each set.
 abbrev pub Content : Type 0
@@ -30,15 +29,15 @@ total (x ∷ xs) = x + total xs
 
 -- The answer, and the lent bytes afterwards.
 pub record Run : Type 0 where
-  pub answer : TraceAnswer
+  pub answer : Result ℕ Refusal
   pub marks : List ℕ
 
 abbrev pub refused_run : ℕ → ℕ → List ℕ → Run
-refused_run number place lent = record { answer = Refused (refuse number place); marks = lent }
+refused_run number place lent = record { answer = Err (refuse number place); marks = lent }
 
 -- "leaves later bytes, and returns the misses"
 abbrev pub took_run : List ℕ → List ℕ → Run
-took_run made lent = record { answer = Misses (total made); marks = made ++ drop (length made) lent }
+took_run made lent = record { answer = Ok (total made); marks = made ++ drop (length made) lent }
 
 -- "block 65,535 in a trace"
 unfoldable pub bad_access : List ℕ → ℕ → Bool

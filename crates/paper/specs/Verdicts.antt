@@ -1,10 +1,8 @@
 -- The check "tests 20 first, then 1 to 10 in order, each over the whole file; then for each fact in turn 11 to 18; then 19", with 26 "after 9 and before 10", and 24 and 25 "at 17's old place before 18": the chains of which the verdict is made, each by its name.
-use Rattle.std.specs.Prelude.{ℕ, zero, suc, List, ◌++◌, ltb, length, drop}
+use Rattle.std.specs.Prelude.{ℕ, zero, suc, List, ◌++◌, ltb, length, drop, Ok, Err, Option}
 use Rattle.paper.specs.declared.Trailer.{Trailer}
 use Rattle.paper.specs.declared.Previous.{Previous}
-use Rattle.paper.specs.declared.Verdict.{Verdict}
-use Rattle.paper.specs.declared.Verdict.TheVariants.{Accepted, Refused}
-use Rattle.paper.specs.Answers.{refuse_at}
+use Rattle.paper.specs.Answers.{Verdict, refuse_at}
 use Rattle.paper.specs.Lists.{least, some}
 use Rattle.paper.specs.Rules.{rule_by, rule, rule_at}
 use Rattle.paper.specs.Cases.{Fact, Case, size, scope_of}
@@ -42,7 +40,7 @@ module _ (e : Case) where
     unfoldable pub head_rule : Fact → Verdict → Verdict
     head_rule t rest = rule 12 i (bad_head e t) rest
 
-    unfoldable pub order_rule : Previous → Fact → Verdict → Verdict
+    unfoldable pub order_rule : Option Previous → Fact → Verdict → Verdict
     order_rule previous t rest = rule 13 i (bad_order e previous t) rest
 
     unfoldable pub fetch_rule : Fact → Verdict → Verdict
@@ -72,13 +70,13 @@ module _ (f : List ℕ) (trailer : Trailer) where
       fetch_rule (case_of f trailer) i (fact_at f p) (rule 15 i (ltb (end_at f) (fact_end f trailer p)) (evidence_rules (case_of f trailer) i (fact_at f p) rest))
 
   -- The turn of fact i, which stands at p, after the previous one; 11: "fewer than 6 bytes left for a fact"
-  unfoldable pub turn_rules : ℕ → Previous → ℕ → Verdict → Verdict
+  unfoldable pub turn_rules : ℕ → Option Previous → ℕ → Verdict → Verdict
   turn_rules i previous p rest =
       rule 11 i (ltb (end_at f) (head_end p))
       (head_rule (case_of f trailer) i (fact_at f p) (order_rule (case_of f trailer) i previous (fact_at f p) (body_rules i p rest)))
 
   -- "for each fact in turn": n facts, from fact i on, which stands at p
-  unfoldable pub turns_from : ℕ → ℕ → Previous → ℕ → Verdict → Verdict
+  unfoldable pub turns_from : ℕ → ℕ → Option Previous → ℕ → Verdict → Verdict
   turns_from zero i previous p rest = rest
   turns_from (suc n) i previous p rest =
       let after = turns_from n (suc i) (previous_of (case_of f trailer) (fact_at f p)) (fact_end f trailer p) rest in
@@ -94,7 +92,7 @@ whole_file_rules f rest = layout_rules f (graph_rules (read_case f) rest)
 
 -- The verdict on a file, without a lent list.
 abbrev pub file_verdict : List ℕ → Verdict
-file_verdict f = whole_file_rules f (fact_rules f (trailer_of f) Accepted)
+file_verdict f = whole_file_rules f (fact_rules f (trailer_of f) (Ok tt))
 
 -- 20: "lent list too short (321)"
 unfoldable pub verdict : List ℕ → ℕ → Verdict
@@ -102,5 +100,5 @@ verdict f room = rule 20 0 (ltb room list_length) (file_verdict f)
 
 -- "The check writes 321 64-bit numbers to a lent list: …, later ones untouched"; a refusal "changes no lent memory". "The caller hands the greatest number p of such interruptions."
 abbrev pub lent_after : List ℕ → ℕ → List ℕ → Verdict → List ℕ
-lent_after f p lent Accepted = numbers (read_case f) p ++ drop list_length lent
-lent_after f p lent (Refused r) = lent
+lent_after f p lent (Ok tt) = numbers (read_case f) p ++ drop list_length lent
+lent_after f p lent (Err r) = lent

@@ -1,12 +1,9 @@
 -- "Write the file from lists": the content of a case file as plain lists, the bytes that are written for it, the content that a file has, and the refusals.
-use Rattle.std.specs.Prelude.{ℕ, zero, suc, ◌+◌, ◌*◌, ◌/◌, ◌%◌, ◌≤◌, ◌≡◌, Bool, not, ◌||◌, List, [], ◌∷◌, ◌++◌, eqb, ltb, length, get_or, take, drop}
+use Rattle.std.specs.Prelude.{ℕ, zero, suc, ◌+◌, ◌*◌, ◌/◌, ◌%◌, ◌≤◌, ◌≡◌, Bool, not, ◌||◌, List, [], ◌∷◌, ◌++◌, eqb, ltb, length, get_or, take, drop, Result, Ok, Err, Option}
 use Rattle.paper.specs.declared.Loop.{Loop}
 use Rattle.paper.specs.declared.Trailer.{Trailer}
 use Rattle.paper.specs.declared.Previous.{Previous}
-use Rattle.paper.specs.declared.Verdict.{Verdict}
-use Rattle.paper.specs.declared.Verdict.TheVariants as Verdicts
-use Rattle.paper.specs.declared.WriteAnswer.{WriteAnswer}
-use Rattle.paper.specs.declared.WriteAnswer.TheVariants as WriteAnswers
+use Rattle.paper.specs.Answers.{Verdict}
 use Rattle.paper.specs.Lists.{sum_to, each, spaced, part}
 use Rattle.paper.specs.Cases.{Row, Fact, Case, size, scope_of}
 use Rattle.paper.specs.Facts.{none_previous, previous_of}
@@ -16,6 +13,7 @@ use Rattle.paper.specs.Rules.{rule}
 use Rattle.paper.specs.Verdicts.{layout_rules, shape_rules, head_rule, order_rule, row_rules}
 use Rattle.paper.specs.OneFact.{words, head_bytes}
 use Rattle.paper.specs.Demands.{Bytes}
+use Rattle.paper.specs.declared.Refusal.{Refusal}
 
 -- "Nodes, edges, loops and facts in": one number a node (its block), two an edge (from, to), three a loop (first, last, B), in version 2 four (W), four a head (scope, block, l, how many rows
 -- the fact brings), eight a row ("its number and all seven slots as they stand, free ones too").
@@ -192,12 +190,12 @@ content_of f = content_by f (trailer_of f)
 
 module _ (e : Case) where
   -- 12, 13, 15 and 16 of fact i, where `short` is the test of 15: of a file "rows cut short", of a content "a wrong number of rows"
-  unfoldable pub content_rules : ℕ → Previous → Bool → Verdict → Verdict
+  unfoldable pub content_rules : ℕ → Option Previous → Bool → Verdict → Verdict
   content_rules i previous short rest =
       head_rule e i (e.fact i) (order_rule e i previous (e.fact i) (rule 15 i short (row_rules e i (e.fact i) rest)))
 
   -- "for each fact in turn": n facts, from fact i on
-  unfoldable pub in_turn : (ℕ → Previous → Verdict → Verdict) → ℕ → ℕ → Previous → Verdict → Verdict
+  unfoldable pub in_turn : (ℕ → Option Previous → Verdict → Verdict) → ℕ → ℕ → Option Previous → Verdict → Verdict
   in_turn turn zero i previous rest = rest
   in_turn turn (suc n) i previous rest =
       let after = in_turn turn n (suc i) (previous_of e (e.fact i)) rest in
@@ -205,7 +203,7 @@ module _ (e : Case) where
 
 module _ (f : List ℕ) (t : Trailer) where
   -- 11: "fewer than 6 bytes left for a fact"
-  unfoldable pub laid_turn : ℕ → Previous → Verdict → Verdict
+  unfoldable pub laid_turn : ℕ → Option Previous → Verdict → Verdict
   laid_turn i previous rest =
       rule 11 i (ltb (end_at f) (head_end (fact_place f t i)))
       (content_rules (case_of f t) i previous (ltb (end_at f) (fact_end f t (fact_place f t i))) rest)
@@ -215,7 +213,7 @@ module _ (f : List ℕ) (t : Trailer) where
 
 -- "The layout checks are 1 to 7, 11 to 13, 15, 16 and 19."
 abbrev pub layout_verdict : List ℕ → Verdict
-layout_verdict f = layout_rules f (shape_rules (read_case f) (laid_facts f (trailer_of f) Verdicts.Accepted))
+layout_verdict f = layout_rules f (shape_rules (read_case f) (laid_facts f (trailer_of f) (Ok tt)))
 
 -- 4, beside the numbers: a list that is not a whole number of records, or a row list that is not eight numbers for each row that the heads name
 unfoldable pub bad_lists : FileContent → Bool
@@ -228,7 +226,7 @@ bad_lists c =
 unfoldable pub bad_rows_named : FileContent → ℕ → Bool
 bad_rows_named c i = not (eqb (rows_named c i) (size (scope_of (case_in c) ((case_in c).fact i))))
 
-unfoldable pub written_turn : FileContent → ℕ → Previous → Verdict → Verdict
+unfoldable pub written_turn : FileContent → ℕ → Option Previous → Verdict → Verdict
 written_turn c i previous rest = content_rules (case_in c) i previous (bad_rows_named c i) rest
 
 unfoldable pub written_facts : FileContent → Verdict → Verdict
@@ -240,26 +238,26 @@ list_rules c rest = rule 2 0 (Records.bad_version c.version) (rule 3 0 (bad_cach
 
 -- "Refusals, in this order: 3, 4, 6 and 7; then for each fact in turn 12, 13, 15 and 16, with their places …; then 20 if the file does not fit."
 unfoldable pub write_verdict : FileContent → ℕ → Verdict
-write_verdict c room = list_rules c (shape_rules (case_in c) (written_facts c (rule 20 0 (ltb room (length (file_of c))) Verdicts.Accepted)))
+write_verdict c room = list_rules c (shape_rules (case_in c) (written_facts c (rule 20 0 (ltb room (length (file_of c))) (Ok tt))))
 
 -- The answer: how long the file is.
-abbrev pub write_answer : FileContent → Verdict → WriteAnswer
-write_answer c Verdicts.Accepted = WriteAnswers.Written (length (file_of c))
-write_answer c (Verdicts.Refused r) = WriteAnswers.Refused r
+abbrev pub write_answer : FileContent → Verdict → Result ℕ Refusal
+write_answer c (Ok tt) = Ok (length (file_of c))
+write_answer c (Err r) = Err r
 
 -- "Bytes past the file stay; on a refusal all do."
 abbrev pub out_after : FileContent → List ℕ → Verdict → List ℕ
-out_after c out Verdicts.Accepted = file_of c ++ drop (length (file_of c)) out
-out_after c out (Verdicts.Refused r) = out
+out_after c out (Ok tt) = file_of c ++ drop (length (file_of c)) out
+out_after c out (Err r) = out
 
 -- "What it writes passes them and reads back as the same lists"
 abbrev pub ReadsBack : FileContent → ℕ → Type 0
 ReadsBack c room =
-    write_verdict c room ≡ Verdicts.Accepted → (layout_verdict (file_of c) ≡ Verdicts.Accepted) × (content_of (file_of c) ≡ c) × (length (file_of c) ≤ room)
+    write_verdict c room ≡ Ok tt → (layout_verdict (file_of c) ≡ Ok tt) × (content_of (file_of c) ≡ c) × (length (file_of c) ≤ room)
 
 -- "and any file that passes them comes out again byte for byte when its content is written, so one content has one file"
 abbrev pub WritesBack : List ℕ → Type 0
 WritesBack f =
     Bytes f
-    → layout_verdict f ≡ Verdicts.Accepted
-    → (file_of (content_of f) ≡ f) × ((room : ℕ) → length f ≤ room → write_verdict (content_of f) room ≡ Verdicts.Accepted)
+    → layout_verdict f ≡ Ok tt
+    → (file_of (content_of f) ≡ f) × ((room : ℕ) → length f ≤ room → write_verdict (content_of f) room ≡ Ok tt)

@@ -18,3 +18,8 @@ pub const LIST_LENGTH: usize = 321;
 pub const SETS_FROM: usize = 1;
 
 pub const FACTS_FROM: usize = 65;
+
+// A row's number: below 8 it is "the number of blocks", 8 says "many", and 9 that "b has not been fetched".
+pub const MANY: u16 = 8;
+
+pub const UNFETCHED: u16 = 9;

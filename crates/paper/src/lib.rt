@@ -1,8 +1,9 @@
 // The types that cross crate borders. What they mean stands in specs/, section by section of the paper.
 #![tactic(auto)]
 
-ghost use Rattle.std.specs.Prelude.{◌≡◌};
+ghost use Rattle.std.specs.Prelude.{◌≡◌, ◌+◌, ◌/◌, ◌<◌, ◌≤◌};
 ghost use Rattle.paper.specs.Answers as Answers;
+ghost use Rattle.paper.specs.NextBits.{next_bits};
 
 mod cache;
 mod ceilings;
@@ -10,13 +11,13 @@ mod methods;
 mod policies;
 mod versions;
 
-pub use cache::{home, home_in, is_in_range, is_offered, is_set_count, sets_of};
+pub use cache::{home, is_in_range, is_offered, is_set_count};
 pub use ceilings::{
-    FACTS_FROM, LIST_LENGTH, LONGEST_INPUT, MOST_BOUND, MOST_EDGES, MOST_FACTS, MOST_LOOPS,
-    MOST_NODES, SETS_FROM,
+    FACTS_FROM, LIST_LENGTH, LONGEST_INPUT, MANY, MOST_BOUND, MOST_EDGES, MOST_FACTS, MOST_LOOPS,
+    MOST_NODES, SETS_FROM, UNFETCHED,
 };
 pub use methods::{kept_from, shift_of};
-pub use policies::{FIFO, LRU, NMRU, TREE, bits_below, has_floors};
+pub use policies::{FIFO, LRU, NMRU, Policy, TREE, has_floors};
 pub use versions::{UNLIMITED, WITH_W, WITHOUT_W, at_most, is_bad_version};
 
 // "Addresses, block numbers and set numbers, which the sources distinguish, are each kept apart."
@@ -58,11 +59,21 @@ pub struct Line {
     pub hit: bool,
 }
 
-// A number of sets, and what takes the place of a division by it.
+// "With S sets (1 to 64)": S, and what takes the place of a division by it, 2^32 / S rounded up.
 #[derive(Clone, Copy)]
 pub struct Sets {
     pub count: u64,
     pub inverse: u64,
+    ghost some: { 0 < count },
+    ghost few: { count ≤ 64 },
+    ghost rounded_up: { inverse ≡ (4294967295 + count) / count },
+}
+
+// "For eight ways the NMRU bits come from a table over all 256 patterns and eight lines (2,048 entries), pattern p and line j at entry 8p + j".
+#[derive(Clone, Copy)]
+pub struct NextBits<'a> {
+    pub table: &'a [u8; 2048],
+    ghost made: { table.now ≡ next_bits },
 }
 
 // "Each returns number and place." "The result gets a second place": the node or the edge at which a fact's evidence breaks, and 0 for every other refusal.
@@ -73,56 +84,18 @@ pub struct Refusal {
     pub second: usize,
 }
 
-#[derive(Clone, Copy)]
-pub enum Verdict {
-    Accepted,
-    Refused(Refusal),
-}
-
-#[derive(Clone, Copy)]
-pub enum TraceAnswer {
-    Misses(usize),
-    Refused(Refusal),
-}
-
+// "handed back with hit or miss"
 #[derive(Clone, Copy)]
 pub enum Outcome {
     Hit,
     Miss,
-    Refused(Refusal),
 }
 
+// "a refused step hands back the state it was given"
 #[derive(Clone, Copy)]
 pub struct StepAnswer {
     pub state: SetState,
-    pub outcome: Outcome,
-}
-
-#[derive(Clone, Copy)]
-pub enum BlockAnswer {
-    Found(Block),
-    Refused(Refusal),
-}
-
-#[derive(Clone, Copy)]
-pub enum SetAnswer {
-    Found(SetNumber),
-    Refused(Refusal),
-}
-
-// "Case file out in a lent buffer": how many bytes of it the file takes.
-#[derive(Clone, Copy)]
-pub enum WriteAnswer {
-    Written(usize),
-    Refused(Refusal),
-}
-
-// "the smallest age limit up to k for which evidence exists", or none.
-#[derive(Clone, Copy)]
-pub enum FindAnswer {
-    Found(u16),
-    None,
-    Refused(Refusal),
+    pub outcome: Result<Outcome, Refusal>,
 }
 
 // "writes the rest, with a list of dropped facts": how many bytes the rest takes, and how many facts were dropped.
@@ -130,26 +103,6 @@ pub enum FindAnswer {
 pub struct Salvage {
     pub length: usize,
     pub dropped: usize,
-}
-
-#[derive(Clone, Copy)]
-pub enum SalvageAnswer {
-    Salvaged(Salvage),
-    Refused(Refusal),
-}
-
-// "One pass gives eight counts": the misses with one way, two ways and so on up to eight. A refusal has zeros.
-#[derive(Clone, Copy)]
-pub struct WaysAnswer {
-    pub counts: [u64; 8],
-    pub verdict: Verdict,
-}
-
-// "Only the time is returned."
-#[derive(Clone, Copy)]
-pub enum TimeAnswer {
-    Time(u64),
-    Refused(Refusal),
 }
 
 // "The loops are handed on as a list of records: first node, last node, bound"; and "a further 32-bit number W", how often a whole walk visits the header at most.
@@ -174,10 +127,9 @@ pub struct Trailer {
     pub version: u8,
 }
 
-// What the order of facts asks of the previous fact: whether there is one, its block, and its scope's last node.
+// What the order of facts asks of the previous fact, where there is one: its block, and its scope's last node.
 #[derive(Clone, Copy)]
 pub struct Previous {
-    pub any: bool,
     pub block: u16,
     pub last: u16,
 }

@@ -1,12 +1,11 @@
 // One step of each machine, by value on the set state: the lines go back shifted or replaced, with hit or miss.
 ghost use Rattle.std.specs.Prelude.{◌≡◌, ◌≢◌, ℕ, ◌+◌, ◌^◌, ◌<◌, ◌≤◌, set};
-ghost use Rattle.paper.specs.Machines.{none, line_of, hits, line_or, victim, miss_line, lru_step, fifo_step, nmru_step};
-ghost use Rattle.paper.specs.NextBits.{next_bits};
+ghost use Rattle.paper.specs.Machines.{none, line_of, hits, line_or, victim, miss_line, lru_step, fifo_step, marked, nmru_step};
 ghost use Rattle.paper.specs.Ready.{Ready, state_of, stepped_of};
 ghost use Rattle.lines.specs.Lines.{weighed};
 ghost use Rattle.paper.specs.Shifts.{kept_from, shift_by, shift_at, Bit, marked_by, line_for};
 
-use crate::{Block, Line, SetState, Shift, Stepped};
+use crate::{Block, Line, NextBits, SetState, Shift, Stepped};
 use lines::{kept_after, moved, replaced, weight};
 
 // "the lowest line whose bit is 0": that bit's value. At least one of the low k is.
@@ -23,12 +22,10 @@ fn lowest_empty(lines: [u16; 8]) -> usize
     ensures value { result ≡ line_of lines none }
     ensures upper_bound { result ≤ 8 }
 {
-    let mut i: usize = 0;
-    while i < 8 {
+    for i in 0..8 {
         if lines[i] == 65535 {
             return i;
         }
-        i += 1;
     }
     8
 }
@@ -45,17 +42,24 @@ fn missed_bit(lines: [u16; 8], bits: u8, k: usize) -> u16
     lowest_clear(bits, k)
 }
 
+impl NextBits<'_> {
+    // The bits after an access of line j.
+    pub fn after(self, bits: u8, j: usize) -> u8
+        requires { j < 8 }
+        ensures { result ≡ marked 8 bits j }
+    {
+        self.table[8 * (bits as usize) + j]
+    }
+}
+
 // "The accessed line's bit becomes 1; if then all k bits are 1, all the others become 0." The line comes by its bit's value. For eight ways from the table.
-fn mark(bits: u8, k: usize, bit: u16, next: &[u8; 2048]) -> u8
+fn mark(bits: u8, k: usize, bit: u16, next: NextBits) -> u8
     requires bit { Bit k bit }
     requires k_bound { (k ≤ 8) × (bits + 1 < 2 ^ k) }
-    requires next_value { next.now ≡ next_bits }
     ensures { result ≡ marked_by k bits bit }
 {
     if k == 8 {
-        let j = u32::trailing_zeros(bit as u32) as usize;
-        let at = 8 * (bits as usize) + j;
-        return next[at];
+        return next.after(bits, u32::trailing_zeros(bit as u32) as usize);
     }
     let p = bits as u16;
     let q = p | bit;
@@ -81,10 +85,8 @@ pub fn kept_from(n: usize) -> [u16; 8]
     ensures { result ≡ kept_from n }
 {
     let mut kept = [0u16; 8];
-    let mut i = n;
-    while i < 8 {
+    for i in n..8 {
         kept[i] = 65535;
-        i += 1;
     }
     kept
 }
@@ -171,6 +173,7 @@ impl SetState {
 
     // The same where the bits alone tell a missed block's line, as they do in a run from empty sets. A guess at the line's bit comes with the block: where it is right the processor need not wait for the search,
     // and where it is not nothing else changes.
+    // The tree's line is looked for in the same words (crates/trees): as one function, with the missed line handed over, a run took seven instructions an access more.
     pub fn line_by_bits(self, k: usize, block: Block, guess: u8) -> Line
         requires ready { Ready k self.lines }
         requires block_nonzero { block.0 ≢ none }
@@ -212,11 +215,10 @@ impl SetState {
         stepped(replaced(lines, line.bit, block.0), bits, false)
     }
 
-    pub fn nmru(self, k: usize, block: Block, line: Line, next: &[u8; 2048]) -> Stepped
+    pub fn nmru(self, k: usize, block: Block, line: Line, next: NextBits) -> Stepped
         requires ready { Ready k self.lines }
         requires bits_bound { self.bits + 1 < 2 ^ k }
         requires line_value { line ≡ line_for k self block.0 }
-        requires next_value { next.now ≡ next_bits }
         ensures { result ≡ nmru_step k self block.0 }
     {
         self.placed(k, block, line, mark(self.bits, k, line.bit, next))

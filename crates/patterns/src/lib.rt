@@ -3,7 +3,6 @@
 
 ghost use Rattle.std.specs.Prelude.{◌≡◌, true, ◌-◌, ◌^◌, ◌≤◌, ◌<◌, length};
 ghost use Rattle.paper.specs.Machines.{offered};
-ghost use Rattle.paper.specs.NextBits.{next_bits};
 ghost use Rattle.paper.specs.Patterns as Patterns;
 ghost use Rattle.paper.specs.Policies.{tree_policy};
 ghost use Rattle.paper.specs.Trees as Trees;
@@ -23,6 +22,7 @@ fn binary(out: &mut [u8], at: usize, bits: u8, w: usize) -> usize
     ensures { Put out.old at (Patterns.binary bits w) result out.new }
 {
     let mut to = at;
+    // `while`: i goes down, and is at once the number of digits that are left.
     let mut i = w;
     while i > 0 {
         i -= 1;
@@ -39,9 +39,7 @@ fn turned(k: usize, p: usize, j: usize) -> u8
     requires j_lt_k { j < k }
     ensures { result ≡ Trees.turned k p j }
 {
-    let ones = trees::ones();
-    let zeros = trees::zeros();
-    trees::turn(k, p as u8, 1 << j, &ones, &zeros)
+    trees::tables().turn(k, p as u8, 1 << j)
 }
 
 // The line that the tree's miss takes.
@@ -50,8 +48,7 @@ fn taken(k: usize, p: usize) -> u8
     requires p_bound { p < 2 ^ (k - 1) }
     ensures { result ≡ Trees.tree_victim k p }
 {
-    let misses = trees::misses();
-    let at_miss = trees::missed(k, p as u8, &misses);
+    let at_miss = trees::tables().missed(k, p as u8);
     u32::trailing_zeros((at_miss % 256) as u32) as u8
 }
 
@@ -69,86 +66,54 @@ fn miss(out: &mut [u8], at: usize, tree: bool, k: usize, p: usize) -> usize
 }
 
 // The bits after an access of line j.
-fn after(tree: bool, table: &[u8; 2048], k: usize, p: usize, j: usize) -> u8
+fn after(tree: bool, k: usize, p: usize, j: usize) -> u8
     requires shown { Shown tree k p }
-    requires table_value { table.now ≡ next_bits }
     requires j_lt_k { j < k }
     ensures { result ≡ after_of tree k p j }
 {
     if tree {
         return turned(k, p, j);
     }
-    table[8 * p + j]
+    next::next_bits().after(p as u8, j)
 }
 
 // The next bits for each line, behind a space.
-fn next(
-    out: &mut [u8],
-    at: usize,
-    tree: bool,
-    table: &[u8; 2048],
-    k: usize,
-    w: usize,
-    p: usize,
-) -> usize
+fn next(out: &mut [u8], at: usize, tree: bool, k: usize, w: usize, p: usize) -> usize
     requires w_bound { w ≤ 8 }
     requires shown { Shown tree k p }
-    requires table_value { table.now ≡ next_bits }
     requires fits { Fits out.old at (Patterns.next_from (after_of tree k p) w 0 k) }
     ensures { Put out.old at (Patterns.next_from (after_of tree k p) w 0 k) result out.new }
 {
     let mut to = at;
-    let mut j: usize = 0;
-    while j < k {
+    for j in 0..k {
         let after_space = print::word(out, to, b" ");
-        to = binary(out, after_space, after(tree, table, k, p, j), w);
-        j += 1;
+        to = binary(out, after_space, after(tree, k, p, j), w);
     }
     to
 }
 
-fn line(
-    out: &mut [u8],
-    at: usize,
-    tree: bool,
-    table: &[u8; 2048],
-    k: usize,
-    w: usize,
-    p: usize,
-) -> usize
+fn line(out: &mut [u8], at: usize, tree: bool, k: usize, w: usize, p: usize) -> usize
     requires w_bound { w ≤ 8 }
     requires shown { Shown tree k p }
-    requires table_value { table.now ≡ next_bits }
     requires fits { Fits out.old at (line_of tree k w p) }
     ensures { Put out.old at (line_of tree k w p) result out.new }
 {
     let after_pattern = binary(out, at, p as u8, w);
     let after_miss = miss(out, after_pattern, tree, k, p);
-    let after_next = next(out, after_miss, tree, table, k, w, p);
+    let after_next = next(out, after_miss, tree, k, w, p);
     print::word(out, after_next, b"\n")
 }
 
 // The lines of n patterns, which are all that k ways have.
-fn lines(
-    out: &mut [u8],
-    at: usize,
-    tree: bool,
-    table: &[u8; 2048],
-    k: usize,
-    w: usize,
-    n: usize,
-) -> usize
+fn lines(out: &mut [u8], at: usize, tree: bool, k: usize, w: usize, n: usize) -> usize
     requires w_bound { w ≤ 8 }
     requires shape { Shape tree k n }
-    requires table_value { table.now ≡ next_bits }
     requires fits { Fits out.old at (Patterns.patterns_from (line_of tree k w) 0 n) }
     ensures { Put out.old at (Patterns.patterns_from (line_of tree k w) 0 n) result out.new }
 {
     let mut to = at;
-    let mut p: usize = 0;
-    while p < n {
-        to = line(out, to, tree, table, k, w, p);
-        p += 1;
+    for p in 0..n {
+        to = line(out, to, tree, k, w, p);
     }
     to
 }
@@ -158,8 +123,7 @@ pub fn patterns(out: &mut [u8; LENGTH])
     ensures out_after { out.new ≡ Patterns.patterns }
     ensures out_len { length out.new ≡ 20736 }
 {
-    let table = next::next_bits();
-    lines(out, 0, false, &table, 8, 8, 256);
+    lines(out, 0, false, 8, 8, 256);
 }
 
 // The tree's, for 2, 4 and 8 ways.
@@ -167,8 +131,7 @@ pub fn tree_patterns(out: &mut [u8; TREE_LENGTH])
     ensures out_after { out.new ≡ Patterns.tree_patterns }
     ensures out_len { length out.new ≡ 9664 }
 {
-    let table = next::next_bits();
-    let after_two = lines(out, 0, true, &table, 2, 1, 2);
-    let after_four = lines(out, after_two, true, &table, 4, 3, 8);
-    lines(out, after_four, true, &table, 8, 7, 128);
+    let after_two = lines(out, 0, true, 2, 1, 2);
+    let after_four = lines(out, after_two, true, 4, 3, 8);
+    lines(out, after_four, true, 8, 7, 128);
 }

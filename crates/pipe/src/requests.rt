@@ -1,136 +1,82 @@
-// One request of each operation: its lent memory is read, the answer is made where it lies, and what stands from its place on is written.
-ghost use Rattle.std.specs.Prelude.{◌≡◌, ◌+◌, ◌*◌, ◌≤◌, length};
-ghost use Rattle.paper.specs.Files.{u32_at};
-ghost use Rattle.frames.specs.Places as Places;
-ghost use Rattle.frames.specs.Room as Room;
+// One request of each operation whose lists have room in the whole run's: its lent memory is read, the answer is made where it lies, and what stands from its place on is written.
+ghost use Rattle.std.specs.Prelude.{◌≡◌, ◌≤◌, length};
+ghost use Rattle.frames.specs.Places.{lent_at};
 
-use answers::{ACCESSES, FILE, NUMBERS};
-use frames::places;
+use crate::channel::{Channel, End};
+use crate::room::{Room, count};
+use answers::{ACCESSES, FILE, FOUND, NUMBERS};
+use frames::operations::Operation;
+use frames::places::{self, ARGUMENTS_ROOM, LENT_AT};
 use std::io::{Read, Write};
 
-// How a request ends: it is answered; there is none, or nobody takes the answer; or it cannot be answered, and why.
-#[derive(Clone, Copy)]
-pub enum Frame {
-    Answered,
-    Over,
-    Stopped(u8),
-}
-
-// Reads as many bytes as there is room for, and answers whether they were there.
-pub fn read<R: Read>(from: &mut R, into: &mut [u8]) -> bool {
-    match input::fill(from, into) {
-        Ok(n) => n == into.len(),
-        Err(_) => false,
-    }
-}
-
-pub fn written<W: Write>(to: &mut W, answer: &[u8]) -> Frame {
-    match to.write_all(answer) {
-        Ok(()) => Frame::Answered,
-        Err(_) => Frame::Over,
-    }
-}
-
 // A step, the block of an address or the set of a block: no lent memory.
-fn placed(operation: u8, request: &[u8; places::ARGUMENTS_ROOM], bytes: &mut [u8]) -> usize
-    requires { length bytes.old ≡ Places.lent_at }
-    ensures { result ≤ Places.lent_at }
+fn placed(operation: Operation, request: &[u8; ARGUMENTS_ROOM], bytes: &mut [u8]) -> usize
+    requires { length bytes.old ≡ lent_at }
+    ensures { result ≤ lent_at }
 {
     match operation {
-        1 => answers::steps::answer(request, bytes),
-        2 => answers::addresses::answer(request, bytes),
+        Operation::Step => answers::steps::answer(request, bytes),
+        Operation::Block => answers::addresses::answer(request, bytes),
         _ => answers::sets::answer(request, bytes),
     }
 }
 
-pub fn short<W: Write>(
-    to: &mut W,
-    operation: u8,
-    request: &[u8; places::ARGUMENTS_ROOM],
-    bytes: &mut [u8],
-) -> Frame
-    requires { length bytes.old ≡ Places.lent_at }
-{
+pub fn short<R: Read, W: Write>(
+    channel: &mut Channel<R, W>,
+    operation: Operation,
+    request: &[u8; ARGUMENTS_ROOM],
+    room: &mut Room,
+) -> Result<(), End> {
+    let whole = &mut *room.bytes;
+    let bytes = &mut whole[0..LENT_AT];
     let at = placed(operation, request, bytes);
-    written(to, &bytes[at..])
-}
-
-fn traced<R: Read, W: Write>(
-    from: &mut R,
-    to: &mut W,
-    request: &[u8; places::ARGUMENTS_ROOM],
-    bytes: &mut [u8],
-    blocks: &mut [u16],
-) -> Frame
-    requires request_in_bounds { u32_at request.now Places.trace_accesses ≤ length blocks.old }
-    requires request_in_bounds_2 { Places.lent_at + 2 * u32_at request.now Places.trace_accesses ≤ length bytes.old }
-{
-    if !read(from, &mut bytes[places::LENT_AT..]) {
-        return Frame::Stopped(2);
-    }
-    let at = answers::traces::answer(request, bytes, blocks);
-    written(to, &bytes[at..])
+    channel.write(&bytes[at..])
 }
 
 // The arguments end with the number of blocks and the number of marks.
 pub fn trace<R: Read, W: Write>(
-    from: &mut R,
-    to: &mut W,
-    request: &[u8; places::ARGUMENTS_ROOM],
-    bytes: &mut [u8],
-    blocks: &mut [u16],
-) -> Frame
-    requires in_bounds { Room.bytes ≤ length bytes.old }
-    requires in_bounds_2 { Room.accesses ≤ length blocks.old }
-{
-    let n = layout::u32_at(request, places::TRACE_ACCESSES) as usize;
-    let m = layout::u32_at(request, places::TRACE_MARKS) as usize;
-    if n > ACCESSES {
-        return Frame::Stopped(3);
-    }
-    if m > ACCESSES {
-        return Frame::Stopped(3);
-    }
-    let end = places::LENT_AT + 2 * n + m;
-    traced(from, to, request, &mut bytes[0..end], blocks)
-}
-
-fn checked<R: Read, W: Write>(
-    from: &mut R,
-    to: &mut W,
-    request: &[u8; places::ARGUMENTS_ROOM],
-    bytes: &mut [u8],
-    numbers: &mut [u64],
-) -> Frame
-    requires request_in_bounds { u32_at request.now Places.check_numbers ≤ length numbers.old }
-    requires bytes_len { length bytes.old ≡ Places.lent_at + (u32_at request.now Places.check_file + 8 * u32_at request.now Places.check_numbers) }
-{
-    if !read(from, &mut bytes[places::LENT_AT..]) {
-        return Frame::Stopped(2);
-    }
-    let at = answers::checks::answer(request, bytes, numbers);
-    written(to, &bytes[at..])
+    channel: &mut Channel<R, W>,
+    request: &[u8; ARGUMENTS_ROOM],
+    room: &mut Room,
+) -> Result<(), End> {
+    let n = count(request, places::TRACE_ACCESSES, ACCESSES)?;
+    let m = count(request, places::TRACE_MARKS, ACCESSES)?;
+    let blocks = &mut *room.blocks;
+    let whole = &mut *room.bytes;
+    let bytes = &mut whole[0..LENT_AT + 2 * n + m];
+    channel.read(&mut bytes[LENT_AT..])?;
+    let at = answers::traces::answer(request, bytes, blocks);
+    channel.write(&bytes[at..])
 }
 
 // The arguments end with the number of bytes and the number of numbers.
 pub fn check<R: Read, W: Write>(
-    from: &mut R,
-    to: &mut W,
-    request: &[u8; places::ARGUMENTS_ROOM],
-    bytes: &mut [u8],
-    numbers: &mut [u64],
-) -> Frame
-    requires in_bounds { Room.bytes ≤ length bytes.old }
-    requires in_bounds_2 { Room.numbers ≤ length numbers.old }
-{
-    let n = layout::u32_at(request, places::CHECK_FILE) as usize;
-    let m = layout::u32_at(request, places::CHECK_NUMBERS) as usize;
-    if n > FILE {
-        return Frame::Stopped(3);
-    }
-    if m > NUMBERS {
-        return Frame::Stopped(3);
-    }
-    let end = places::LENT_AT + n + 8 * m;
-    checked(from, to, request, &mut bytes[0..end], numbers)
+    channel: &mut Channel<R, W>,
+    request: &[u8; ARGUMENTS_ROOM],
+    room: &mut Room,
+) -> Result<(), End> {
+    let n = count(request, places::CHECK_FILE, FILE)?;
+    let m = count(request, places::CHECK_NUMBERS, NUMBERS)?;
+    let numbers = &mut *room.numbers;
+    let whole = &mut *room.bytes;
+    let bytes = &mut whole[0..LENT_AT + n + 8 * m];
+    channel.read(&mut bytes[LENT_AT..])?;
+    let at = answers::checks::answer(request, bytes, numbers);
+    channel.write(&bytes[at..])
+}
+
+// The arguments end with the number of bytes and the number of numbers. The rows have room where a trace has its blocks.
+pub fn find<R: Read, W: Write>(
+    channel: &mut Channel<R, W>,
+    request: &[u8; ARGUMENTS_ROOM],
+    room: &mut Room,
+) -> Result<(), End> {
+    let n = count(request, places::FIND_FILE, FILE)?;
+    let m = count(request, places::FIND_NUMBERS, FOUND)?;
+    let rows = &mut *room.blocks;
+    let whole = &mut *room.bytes;
+    let bytes = &mut whole[0..LENT_AT + n + 2 * m];
+    channel.read(&mut bytes[LENT_AT..])?;
+    let at = answers::finds::answer(request, bytes, rows);
+    channel.write(&bytes[at..])
 }

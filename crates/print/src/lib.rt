@@ -1,4 +1,5 @@
 // Words and numbers, put one after another into a lent buffer and then written in one go.
+// The buffer and the place are two parameters: so a clause names the lent bytes themselves, before and after.
 #![tactic(auto)]
 
 ghost use Rattle.std.specs.Prelude.{◌+◌, ◌≤◌, length};
@@ -7,22 +8,8 @@ ghost use Rattle.puts.specs.Put.{Fits, Put};
 
 use itoa::Buffer;
 use paper::Refusal;
+pub use puts::word;
 use std::io;
-
-// Puts a word at a place, and answers the place after it.
-pub fn word(out: &mut [u8], at: usize, word: &[u8]) -> usize
-    requires { Fits out.old at word.now }
-    ensures { Put out.old at word.now result out.new }
-{
-    let mut to = at;
-    let mut i = 0;
-    while i < word.len() {
-        out[to] = word[i];
-        to += 1;
-        i += 1;
-    }
-    to
-}
 
 // Puts a number in decimal.
 pub fn number(out: &mut [u8], at: usize, n: u64) -> usize

@@ -6,23 +6,22 @@ ghost use Rattle.paper.specs.Bounds.{list_length};
 ghost use Rattle.paper.specs.Known.{Laid};
 ghost use Rattle.ruling.specs.Ruled.{Ruled};
 
-use paper::{MOST_NODES, Trailer, Verdict};
+use paper::{MOST_NODES, Refusal, Trailer};
 
 // Rules 6 to 19 and the 321 numbers, for a file that passes rules 1 to 5 and a walk that is interrupted so often at most.
-pub fn rule_on(file: &[u8], trailer: Trailer, interruptions: u16, numbers: &mut [u64]) -> Verdict
+pub fn rule_on(
+    file: &[u8],
+    trailer: Trailer,
+    interruptions: u16,
+    numbers: &mut [u64],
+) -> Result<(), Refusal>
     requires laid { Laid file.now trailer }
     requires list_length_in_bounds { list_length ≤ length numbers.old }
     ensures { Ruled file.now trailer interruptions numbers.old result numbers.new }
 {
     let mut counts: [u32; MOST_NODES] = [0; MOST_NODES];
-    let graph = graph::graph_rules(file, trailer, &mut counts);
-    if let Verdict::Refused(r) = graph {
-        return Verdict::Refused(r);
-    }
-    let facts = facts::fact_rules(file, trailer);
-    if let Verdict::Refused(r) = facts {
-        return Verdict::Refused(r);
-    }
+    graph::graph_rules(file, trailer, &mut counts)?;
+    facts::fact_rules(file, trailer)?;
     charge::charge(file, trailer, &counts, interruptions, numbers);
-    Verdict::Accepted
+    Ok(())
 }

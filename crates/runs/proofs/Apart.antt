@@ -1,9 +1,9 @@
 -- A run that holds the state of the last set apart, as those of LRU, NMRU and the tree do: what holds after i accesses, that it holds at first, when an access goes to a set, and after its step.
-use Prim.Native.Nat.{ℕ, ◌+◌, ◌%◌, ◌^◌, ◌<◌, ◌≤◌}
+use Prim.Native.Nat.{ℕ, ◌+◌, ◌%◌, ◌<◌, ◌≤◌}
 use native.Mathlib.Decide.{ℕ_discrete}
 use native.Mathlib.Omega.{arith}
 use mathlib.Core.Path.{◌≡◌, refl, sym, ap, ◌∙◌, subst}
-use mathlib.Core.Bool.{not, true}
+use mathlib.Core.Bool.{not}
 use mathlib.Core.List.{List}
 use lib.ListN.{length, get_or, set, replicate, length-set}
 use lib.Seq.{get_or-set_other}
@@ -11,12 +11,11 @@ use borrow.Author.Tests.{eq-eqb, ne_eqb}
 use Rattle.paper.specs.declared.SetState.{SetState}
 use Rattle.paper.specs.declared.Stepped.{Stepped}
 use Rattle.paper.specs.Lists.{bit}
-use Rattle.paper.specs.Machines.{empty_set, legal, step, victim, miss_line}
-use Rattle.paper.specs.Policies.{nmru_policy}
+use Rattle.paper.specs.Machines.{empty_set, step}
 use Rattle.paper.specs.Ready.{Ready}
 use Rattle.paper.specs.Traces.{after}
-use Rattle.runs.specs.TraceRuns.{held, held_apart, no_lines, Runs}
-use Rattle.runs.proofs.Going.{same_content, Going, Access, going_start, going_same, going_more, set_legal, set_ready, set_bits, set_by_bits}
+use Rattle.runs.specs.TraceRuns.{held, held_apart, no_lines, Runs, Stands}
+use Rattle.runs.proofs.Going.{same_content, Going, Access, going_start, going_same, going_more, set_legal, set_ready, set_by_bits, no_none}
 use Rattle.runs.proofs.Held.{held_at, held_here, held_there, held_empty}
 
 module _ (l : List SetState) (at : ℕ) (s : SetState) where
@@ -118,14 +117,15 @@ module _ {p k sets : ℕ} {blocks lent : List ℕ} (ok : Runs p k sets blocks le
       pub apart_ready : Ready k state.lines
       apart_ready = set_ready ok u.apart.going state last (apart_here states last state)
 
-      pub apart_bits : p ≡ nmru_policy → state.bits + 1 < 2 ^ k
-      apart_bits e = set_bits ok u.apart.going state last (apart_here states last state) e
-
-      pub apart_legal : legal p k state ≡ true
-      apart_legal = (set_legal ok u.apart.going state last (apart_here states last state)).legal
-
-      pub apart_by_bits : p ≡ nmru_policy → miss_line k state ≡ victim k state.bits
-      apart_by_bits e = set_by_bits ok u.apart.going state last (apart_here states last state) e
+      -- and what a machine's step asks for
+      pub apart_stands : Stands p k state (get_or blocks i 0)
+      apart_stands =
+          record {
+            offers = ok.offers;
+            legal = (set_legal ok u.apart.going state last (apart_here states last state)).legal;
+            some = no_none ok u.access.within;
+            by_bits = λ e. set_by_bits ok u.apart.going state last (apart_here states last state) e;
+          }
 
       -- the step's state is held apart in the place of the one before
       pub apart_more :

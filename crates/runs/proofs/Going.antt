@@ -12,13 +12,11 @@ use lib.ListN.{length, get_or, take, drop, set, length-set}
 use lib.Seq.{drop-cons, take-suc, set_at, length-take-le, get_or-drop, drop-drop, take_all}
 use borrow.Author.Tests.{eq-eqb, ne_eqb, eqb-false}
 use Rattle.paper.specs.declared.SetState.{SetState}
-use Rattle.paper.specs.declared.Sets.{Sets}
 use Rattle.paper.specs.declared.Stepped.{Stepped}
 use Rattle.paper.specs.Lists.{bit}
 use Rattle.paper.specs.Machines.{none, empty_set, step, victim, miss_line}
 use Rattle.paper.specs.Policies.{nmru_policy}
 use Rattle.paper.specs.Ready.{Ready}
-use Rattle.paper.specs.Shifts.{sets_of}
 use Rattle.paper.specs.Traces.{Content, after, miss_at, marks, total, bad_access}
 use Rattle.paper.specs.Runs.{LegalSet}
 use Rattle.paper.proofs.Says.{says_true}
@@ -85,13 +83,9 @@ module _ {p k sets : ℕ} {blocks lent : List ℕ} (ok : Runs p k sets blocks le
   pub few_ways : k ≤ 8
   few_ways = (says_true (says_offered p k) ok.offers).most
 
-  -- what is asked for a block's set, and what is found
-  module _ (n : Sets) (e : n ≡ sets_of sets) where
-    pub sets_ready : ((0 < n.count) × (n.count ≤ 64)) × (n ≡ sets_of n.count)
-    sets_ready = subst (λ (x : Sets). ((0 < x.count) × (x.count ≤ 64)) × (x ≡ sets_of x.count)) (sym e) ((ok.low, ok.high), refl)
-
-    pub access_is : {i at : ℕ} → i < length blocks → at ≡ get_or blocks i 0 % n.count → at < 64 → Access sets blocks i at
-    access_is {i} {at} h f l = record { within = h; home = f ∙ ap (λ (x : Sets). get_or blocks i 0 % x.count) e; low = l }
+  -- the set that is found
+  pub access_is : {i at n : ℕ} → i < length blocks → n ≡ sets → at ≡ get_or blocks i 0 % n → at < 64 → Access sets blocks i at
+  access_is {i} h e f l = record { within = h; home = f ∙ ap (λ (m : ℕ). get_or blocks i 0 % m) e; low = l }
 
   pub going_start : (c : Content) → ((q : ℕ) → c q ≡ empty_set) → Going p k sets blocks lent lent c 0 0
   unfolding made total

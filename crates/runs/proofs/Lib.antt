@@ -1,3 +1,4 @@
 pub mod Going
 pub mod Held
 pub mod Apart
+pub mod Standing

@@ -1,12 +1,17 @@
-// The runs over a trace that is not refused, one for each policy: every access steps the machine of its set.
+// The run over a trace that is not refused: every access steps the machine of its set.
 #![tactic(auto)]
 
 ghost use Rattle.std.specs.Prelude.{◌≡◌, not, ◌≤◌};
 ghost use Rattle.paper.specs.Lists as Lists;
-ghost use Rattle.paper.specs.Policies.{lru_policy, fifo_policy, nmru_policy, tree_policy};
+ghost use Rattle.paper.specs.Policies.{fifo_policy, nmru_policy, tree_policy};
+ghost use Rattle.paper.specs.PolicyNumbers.{number_of};
 ghost use Rattle.runs.specs.TraceRuns.{Runs, Ran};
 
-use paper::{Block, SetState};
+mod machines;
+
+use machines::{Guesses, Lru, Machine, Nmru, Tree};
+use paper::{Block, Policy, SetState, Sets};
+use trees::TreeTables;
 
 // "1 for a miss and 0 for a hit"
 fn mark_of(hit: bool) -> u8
@@ -16,12 +21,12 @@ fn mark_of(hit: bool) -> u8
     if hit { 0 } else { 1 }
 }
 
-fn lru_run(k: usize, sets: u8, blocks: &[u16], marks: &mut [u8]) -> usize
-    requires { Runs lru_policy k sets blocks.now marks.old }
-    ensures { Ran lru_policy k sets blocks.now marks.old result marks.new }
+// The state of the last access's set is held apart: while accesses go to one set, its lines stay where they are.
+fn run_on<M: Machine>(machine: &mut M, sets: u8, blocks: &[u16], marks: &mut [u8]) -> usize
+    requires { Runs M.policy (M.ways machine.old) sets blocks.now marks.old }
+    ensures { Ran M.policy (M.ways machine.old) sets blocks.now marks.old result marks.new }
 {
-    let all = paper::sets_of(sets);
-    let mut shift = paper::shift_of(k);
+    let all = Sets::of(sets);
     let mut states = [SetState {
         lines: [65535u16; 8],
         bits: 0,
@@ -29,44 +34,38 @@ fn lru_run(k: usize, sets: u8, blocks: &[u16], marks: &mut [u8]) -> usize
     let mut state = states[0];
     let mut last: usize = 0;
     let mut misses: usize = 0;
-    let mut i: usize = 0;
-    while i < blocks.len() {
-        let b = blocks[i];
-        let at = paper::home_in(b, all);
+    for (i, b) in blocks.iter().enumerate() {
+        let at = all.home(*b);
         if at != last {
             states[last] = state;
             state = states[at];
             last = at;
         }
-        let n = state.shift(k, Block(b), shift);
-        let t = state.lru(k, Block(b), n);
+        let t = machine.step(state, Block(*b));
         let m = mark_of(t.hit);
-        shift = n;
         state = t.state;
         marks[i] = m;
         misses += m as usize;
-        i += 1;
     }
     misses
 }
 
+// FIFO's hits change nothing, so only a miss is stored. Its own loop: in `run_on` it takes three instructions an access more with one set, and eleven with 64.
 fn fifo_run(k: usize, sets: u8, blocks: &[u16], marks: &mut [u8]) -> usize
     requires { Runs fifo_policy k sets blocks.now marks.old }
     ensures { Ran fifo_policy k sets blocks.now marks.old result marks.new }
 {
-    let all = paper::sets_of(sets);
+    let all = Sets::of(sets);
     let beyond = paper::kept_from(k);
     let mut states = [SetState {
         lines: [65535u16; 8],
         bits: 0,
     }; 64];
     let mut misses: usize = 0;
-    let mut i: usize = 0;
-    while i < blocks.len() {
-        let b = blocks[i];
-        let at = paper::home_in(b, all);
+    for (i, b) in blocks.iter().enumerate() {
+        let at = all.home(*b);
         let s = states[at];
-        let t = s.fifo(k, Block(b), beyond);
+        let t = s.fifo(k, Block(*b), beyond);
         if !t.hit {
             let new = t.state;
             states[at] = new;
@@ -74,7 +73,6 @@ fn fifo_run(k: usize, sets: u8, blocks: &[u16], marks: &mut [u8]) -> usize
         let m = mark_of(t.hit);
         marks[i] = m;
         misses += m as usize;
-        i += 1;
     }
     misses
 }
@@ -83,96 +81,47 @@ fn nmru_run(k: usize, sets: u8, blocks: &[u16], marks: &mut [u8]) -> usize
     requires { Runs nmru_policy k sets blocks.now marks.old }
     ensures { Ran nmru_policy k sets blocks.now marks.old result marks.new }
 {
-    let all = paper::sets_of(sets);
     let next = next::next_bits();
-    // The line's bit where a block last came in, less 1, as the guess at its line: a block stays in its line until it is lost. Blocks 1,024 apart share a place. From 1 to 128 the compiler sees that a guess is below 255.
-    let mut guesses = [0u8; 1024];
-    let mut states = [SetState {
-        lines: [65535u16; 8],
-        bits: 0,
-    }; 64];
-    let mut state = states[0];
-    let mut last: usize = 0;
-    let mut misses: usize = 0;
-    let mut i: usize = 0;
-    while i < blocks.len() {
-        let b = blocks[i];
-        let at = paper::home_in(b, all);
-        if at != last {
-            states[last] = state;
-            state = states[at];
-            last = at;
-        }
-        let place = (b % 1024) as usize;
-        // A run begins with empty sets and bits 0: the bits alone tell where a missed block goes.
-        let line = state.line_by_bits(k, Block(b), guesses[place] % 128 + 1);
-        if !line.hit {
-            guesses[place] = ((line.bit % 256 + 127) % 128) as u8;
-        }
-        let t = state.nmru(k, Block(b), line, &next);
-        let m = mark_of(t.hit);
-        state = t.state;
-        marks[i] = m;
-        misses += m as usize;
-        i += 1;
-    }
-    misses
+    let mut guesses = Guesses::new();
+    let mut machine = Nmru {
+        k,
+        next,
+        guesses: &mut guesses,
+    };
+    run_on(&mut machine, sets, blocks, marks)
 }
 
-// As NMRU's run, with the tree's tables in the place of the next bits.
+// The tree's tables lie beside the states of the run: reached where the program lies, they take an instruction or two an access more.
 fn tree_run(k: usize, sets: u8, blocks: &[u16], marks: &mut [u8]) -> usize
     requires { Runs tree_policy k sets blocks.now marks.old }
     ensures { Ran tree_policy k sets blocks.now marks.old result marks.new }
 {
-    let all = paper::sets_of(sets);
-    let table = trees::misses();
+    let misses = trees::misses();
     let ones = trees::ones();
     let zeros = trees::zeros();
-    let mut guesses = [0u8; 1024];
-    let mut states = [SetState {
-        lines: [65535u16; 8],
-        bits: 0,
-    }; 64];
-    let mut state = states[0];
-    let mut last: usize = 0;
-    let mut misses: usize = 0;
-    let mut i: usize = 0;
-    while i < blocks.len() {
-        let b = blocks[i];
-        let at = paper::home_in(b, all);
-        if at != last {
-            states[last] = state;
-            state = states[at];
-            last = at;
-        }
-        let place = (b % 1024) as usize;
-        let line = trees::line(state, k, Block(b), guesses[place] % 128 + 1, &table);
-        if !line.hit {
-            guesses[place] = ((line.bit % 256 + 127) % 128) as u8;
-        }
-        let t = trees::step(state, k, Block(b), line, &table, &ones, &zeros);
-        let m = mark_of(t.hit);
-        state = t.state;
-        marks[i] = m;
-        misses += m as usize;
-        i += 1;
-    }
-    misses
+    let tables = TreeTables {
+        misses: &misses,
+        ones: &ones,
+        zeros: &zeros,
+    };
+    let mut guesses = Guesses::new();
+    let mut machine = Tree {
+        k,
+        tables,
+        guesses: &mut guesses,
+    };
+    run_on(&mut machine, sets, blocks, marks)
 }
 
 // The policy is chosen once, before the first access.
-pub fn run(policy: u8, k: usize, sets: u8, blocks: &[u16], marks: &mut [u8]) -> usize
-    requires { Runs policy k sets blocks.now marks.old }
-    ensures { Ran policy k sets blocks.now marks.old result marks.new }
+pub fn run(policy: Policy, k: usize, sets: u8, blocks: &[u16], marks: &mut [u8]) -> usize
+    requires { Runs (number_of policy) k sets blocks.now marks.old }
+    ensures { Ran (number_of policy) k sets blocks.now marks.old result marks.new }
 {
-    if policy == paper::LRU {
-        return lru_run(k, sets, blocks, marks);
+    match policy {
+        Policy::Lru => run_on(&mut Lru::new(k), sets, blocks, marks),
+        Policy::Fifo => fifo_run(k, sets, blocks, marks),
+        Policy::Nmru => nmru_run(k, sets, blocks, marks),
+        Policy::Tree => tree_run(k, sets, blocks, marks),
     }
-    if policy == paper::FIFO {
-        return fifo_run(k, sets, blocks, marks);
-    }
-    if policy == paper::NMRU {
-        return nmru_run(k, sets, blocks, marks);
-    }
-    tree_run(k, sets, blocks, marks)
 }

@@ -5,7 +5,7 @@
 use std::io;
 use std::io::Write;
 
-// One byte more than is allowed shows that the input is longer.
+// One byte more than is allowed shows that the input is longer. It writes to two places, and so is no `listing::program::answer`.
 fn main(rt: HostRuntime) -> io::Result<()> {
     let mut bytes = [0u8; 65537];
     let mut out = [0u8; 65536];

@@ -1,4 +1,5 @@
 -- The facts judged one by one: what is kept and what is dropped, by the turn of the first.
+use Rattle.std.specs.Prelude.{Ok, Err, Option}
 use Prim.Native.Nat.{ℕ, zero, suc, ◌+◌, ◌-◌, ◌*◌, ◌≤◌, ◌<◌}
 use native.Mathlib.Omega.{arith}
 use mathlib.Core.Path.{◌≡◌, refl, sym, ◌∙◌, ap, subst}
@@ -12,8 +13,7 @@ use Rattle.paper.specs.declared.Refusal.{Refusal}
 use Rattle.paper.specs.declared.Loop.{Loop}
 use Rattle.paper.specs.declared.Trailer.{Trailer}
 use Rattle.paper.specs.declared.Previous.{Previous}
-use Rattle.paper.specs.declared.Verdict.{Verdict}
-use Rattle.paper.specs.declared.Verdict.TheVariants.{Accepted, Refused}
+use Rattle.paper.specs.Answers.{Verdict}
 use Rattle.paper.specs.Machines.{none}
 use Rattle.paper.specs.Cases.{size, range_of}
 use Rattle.paper.specs.Facts.{previous_of, wrong_scope}
@@ -34,10 +34,10 @@ scope_named loops w h q =
     omega arith
 
 module _ (f : List ℕ) (trailer : Trailer) where
-  module _ (i : ℕ) (previous : Previous) (p : ℕ) where
-    module _ (e : turn_of f trailer i previous p ≡ Accepted) where
+  module _ (i : ℕ) (previous : Option Previous) (p : ℕ) where
+    module _ (e : turn_of f trailer i previous p ≡ Ok tt) where
       kept : KeptFact f trailer p
-      kept = (turn_kept f trailer i previous p Accepted e).0
+      kept = (turn_kept f trailer i previous p (Ok tt) e).0
 
       scoped : wrong_scope trailer.loops (fact_at f p).scope ≡ false
       unfolding case_of
@@ -59,7 +59,7 @@ module _ (f : List ℕ) (trailer : Trailer) where
       unfolding judged_from
       drops_none n = rw (e, next_kept) refl
 
-    module _ (r : Refusal) (e : turn_of f trailer i previous p ≡ Refused r) where
+    module _ (r : Refusal) (e : turn_of f trailer i previous p ≡ Err r) where
       pub keeps_none : (n : ℕ) → kept_of (judged_from f trailer (suc n) i previous p) ≡ kept_of (judged_from f trailer n (suc i) previous (next_place f trailer p))
       unfolding judged_from
       keeps_none n = rw e refl
@@ -69,21 +69,21 @@ module _ (f : List ℕ) (trailer : Trailer) where
       drops n = rw e refl
 
   -- every fact that is kept ends before the trailer
-  pub kept_whole : (n i : ℕ) (previous : Previous) (p j : ℕ) → j < length (kept_of (judged_from f trailer n i previous p)) →
+  pub kept_whole : (n i : ℕ) (previous : Option Previous) (p j : ℕ) → j < length (kept_of (judged_from f trailer n i previous p)) →
       fact_end f trailer (get_or (kept_of (judged_from f trailer n i previous p)) j 0) ≤ end_at f
   unfolding judged_from
   kept_whole zero i previous p j h = absurd (omega arith)
   kept_whole (suc n) i previous p j h = go (turn_of f trailer i previous p) refl (λ last q k l. kept_whole n (suc i) last q k l) j h
     where
       go : (v : Verdict) → turn_of f trailer i previous p ≡ v →
-          ((last : Previous) (q k : ℕ) → k < length (kept_of (judged_from f trailer n (suc i) last q)) → fact_end f trailer (get_or (kept_of (judged_from f trailer n (suc i) last q)) k 0) ≤ end_at f) →
+          ((last : Option Previous) (q k : ℕ) → k < length (kept_of (judged_from f trailer n (suc i) last q)) → fact_end f trailer (get_or (kept_of (judged_from f trailer n (suc i) last q)) k 0) ≤ end_at f) →
           (j : ℕ) → j < length (kept_of (judged_from f trailer (suc n) i previous p)) →
           fact_end f trailer (get_or (kept_of (judged_from f trailer (suc n) i previous p)) j 0) ≤ end_at f
-      go Accepted e ih zero h = rw (keeps i previous p e n) (kept i previous p e).room
-      go Accepted e ih (suc j) h =
+      go (Ok tt) e ih zero h = rw (keeps i previous p e n) (kept i previous p e).room
+      go (Ok tt) e ih (suc j) h =
           let l : suc j < length (p ∷ kept_of (judged_from f trailer n (suc i) (previous_of (case_of f trailer) (fact_at f p)) (fact_end f trailer p))) = rw (keeps i previous p e n) at h in
           rw (keeps i previous p e n) (ih _ _ j (omega arith))
-      go (Refused r) e ih j h = rw (keeps_none i previous p r e n) (ih _ _ j (rw (keeps_none i previous p r e n) at h))
+      go (Err r) e ih j h = rw (keeps_none i previous p r e n) (ih _ _ j (rw (keeps_none i previous p r e n) at h))
 
 -- where the fact after the one at p stands, by the outcomes a, b and c of the tests for a fact cut short
 pub next_is : (f : List ℕ) (trailer : Trailer) (p : ℕ) (a b c : Bool) →

@@ -1,4 +1,5 @@
 -- The loop that judges each fact into the table.
+use Rattle.std.specs.Prelude.{Result, Ok, Err, Option, Some}
 use Prim.Native.Nat.{ℕ, suc, ◌+◌, ◌-◌, ◌*◌, ◌≤◌, ◌<◌}
 use native.Mathlib.Omega.{arith}
 use native.Mathlib.Numerals.{add-one}
@@ -9,7 +10,6 @@ use lib.Seq.{take-append_seam}
 use Rattle.paper.specs.declared.Refusal.{Refusal}
 use Rattle.paper.specs.declared.Trailer.{Trailer}
 use Rattle.paper.specs.declared.Previous.{Previous}
-use Rattle.paper.specs.declared.Verdict.TheVariants.{Accepted, Refused}
 use Rattle.paper.specs.Facts.{none_previous}
 use Rattle.paper.specs.Files.{end_at, facts_at, fact_end}
 use Rattle.paper.specs.Known.{Laid}
@@ -18,8 +18,6 @@ use Rattle.paper.specs.Verdicts.{turn_rules}
 use Rattle.paper.proofs.Spaces.{length_spaced}
 use Rattle.paper.proofs.VerdictLaws.{end_after}
 use Rattle.facts.specs.declared.Kept.{Kept}
-use Rattle.facts.specs.declared.Turn.{Turn}
-use Rattle.facts.specs.declared.Turn.TheVariants as Turns
 use Rattle.facts.specs.Turns.{verdict_of, Told}
 use Rattle.puts.specs.Put.{Put}
 use Rattle.puts.proofs.Putting.{put_whole, Left, left_start, left_more, left_end}
@@ -40,8 +38,7 @@ module _ (f : List ℕ) (trailer : Trailer) where
 
   -- It is the turn of fact i, which stands at p, after the last one kept: the table has what came of the others, and the facts that are left decide what is still to come.
   module _ (spans₀ whys₀ : List ℕ) where
-    pub record Sifting (spans whys : List ℕ) (kept dropped size : ℕ) (previous : Previous) (p i : ℕ) : Type 0 where
-      pub within : i ≤ trailer.facts
+    pub record Sifting (spans whys : List ℕ) (kept dropped size : ℕ) (previous : Option Previous) (p i : ℕ) : Type 0 where
       pub each : kept + dropped ≡ i
       pub room : p ≤ end_at f
       pub low : facts_at trailer + size ≤ p
@@ -54,7 +51,6 @@ module _ (f : List ℕ) (trailer : Trailer) where
     sift_start laid p e =
         let z : trailer.facts - 0 ≡ trailer.facts = omega arith in
         record {
-          within = omega arith;
           each = omega arith;
           room = omega (arith, laid.room);
           low = omega arith;
@@ -63,24 +59,24 @@ module _ (f : List ℕ) (trailer : Trailer) where
           size_left = rw (z, e) (omega arith);
         }
 
-    module _ {spans whys : List ℕ} {kept dropped size : ℕ} {previous : Previous} {p i : ℕ} (s : Sifting spans whys kept dropped size previous p i) where
-      module _ (h : i < trailer.facts) (r : Turn) (told : Told f trailer p (turn_rules f trailer i previous p) r) where
+    module _ {spans whys : List ℕ} {kept dropped size : ℕ} {previous : Option Previous} {p i : ℕ} (s : Sifting spans whys kept dropped size previous p i) where
+      module _ (h : i < trailer.facts) (r : Result Kept Refusal) (told : Told f trailer p (turn_rules f trailer i previous p) r) where
         one_more : trailer.facts - i ≡ suc (trailer.facts - (i + 1))
         one_more = omega arith
 
-        module _ (k : Kept) (e : r ≡ Turns.Kept k) where
-          accepted : turn_of f trailer i previous p ≡ Accepted
+        module _ (k : Kept) (e : r ≡ Ok k) where
+          accepted : turn_of f trailer i previous p ≡ Ok tt
           accepted = sym told.verdict ∙ ap verdict_of e
 
           -- the list that is left begins with the fact at p
-          rest_kept : kept_of (judged_from f trailer (trailer.facts - i) i previous p) ≡ p ∷ kept_of (judged_from f trailer (trailer.facts - (i + 1)) (i + 1) k.previous k.end)
+          rest_kept : kept_of (judged_from f trailer (trailer.facts - i) i previous p) ≡ p ∷ kept_of (judged_from f trailer (trailer.facts - (i + 1)) (i + 1) (Some k.previous) k.end)
           rest_kept =
               let n = told.next k e in
               ap (λ (m : ℕ). kept_of (judged_from f trailer m i previous p)) one_more
               ∙ keeps f trailer i previous p accepted (trailer.facts - (i + 1))
               ∙ rw (n.previous_is, n.end_is, add-one i) refl
 
-          rest_dropped : dropped_of (judged_from f trailer (trailer.facts - i) i previous p) ≡ dropped_of (judged_from f trailer (trailer.facts - (i + 1)) (i + 1) k.previous k.end)
+          rest_dropped : dropped_of (judged_from f trailer (trailer.facts - i) i previous p) ≡ dropped_of (judged_from f trailer (trailer.facts - (i + 1)) (i + 1) (Some k.previous) k.end)
           rest_dropped =
               let n = told.next k e in
               ap (λ (m : ℕ). dropped_of (judged_from f trailer m i previous p)) one_more
@@ -94,15 +90,14 @@ module _ (f : List ℕ) (trailer : Trailer) where
           grows = omega (arith, s.low, ends_later)
 
           pub sift_keep : (m : List ℕ) → Put spans (2 * kept) (p ∷ k.end ∷ []) (2 * kept + 2) m →
-              Sifting m whys (kept + 1) dropped (size + (k.end - p)) k.previous k.end (i + 1)
+              Sifting m whys (kept + 1) dropped (size + (k.end - p)) (Some k.previous) k.end (i + 1)
           sift_keep m w =
               let n = told.next k e in
               let a : 2 * (kept + 1) ≡ 2 * kept + 2 = omega arith in
-              let rest = kept_of (judged_from f trailer (trailer.facts - (i + 1)) (i + 1) k.previous k.end) in
+              let rest = kept_of (judged_from f trailer (trailer.facts - (i + 1)) (i + 1) (Some k.previous) k.end) in
               let l : Left spans₀ 0 (spans_of f trailer (kept_by f trailer)) spans (2 * kept) (p ∷ fact_end f trailer p ∷ spans_of f trailer rest) = rw rest_kept at s.spans_left in
               let o : size + length (fact_parts f trailer (p ∷ rest)) ≡ length (fact_parts f trailer (kept_by f trailer)) = rw rest_kept at s.size_left in
               record {
-                within = omega arith;
                 each = omega (arith, s.each);
                 room = n.room;
                 low = omega (arith, s.low, ends_later);
@@ -111,8 +106,8 @@ module _ (f : List ℕ) (trailer : Trailer) where
                 size_left = omega (arith, o, length-append (fact_part f trailer p) (fact_parts f trailer rest), length_fact p, n.end_is);
               }
 
-        module _ (x : Refusal) (e : r ≡ Turns.Refused x) where
-          refused : turn_of f trailer i previous p ≡ Refused x
+        module _ (x : Refusal) (e : r ≡ Err x) where
+          refused : turn_of f trailer i previous p ≡ Err x
           refused = sym told.verdict ∙ ap verdict_of e
 
           pub sift_drop : (m : List ℕ) → Put whys (3 * dropped) (listed (x ∷ [])) (3 * dropped + 3) m →
@@ -129,7 +124,6 @@ module _ (f : List ℕ) (trailer : Trailer) where
               ∙ drops f trailer i previous p x refused (trailer.facts - (i + 1))
               ∙ rw (z, add-one i) refl in
               record {
-                within = omega arith;
                 each = omega (arith, s.each);
                 room = room;
                 low = omega (arith, s.low);
@@ -139,7 +133,7 @@ module _ (f : List ℕ) (trailer : Trailer) where
               }
 
       -- after the last fact nothing is left
-      module _ (laid : Laid f trailer) (long : 512 ≤ length spans₀) (wide : 768 ≤ length whys₀) (h : trailer.facts ≤ i) where
+      module _ (laid : Laid f trailer) (long : 512 ≤ length spans₀) (wide : 768 ≤ length whys₀) (h : i ≡ trailer.facts) where
         none_left : trailer.facts - i ≡ 0
         none_left = omega arith
 
@@ -159,7 +153,7 @@ module _ (f : List ℕ) (trailer : Trailer) where
         sift_end =
             let k : 2 * kept ≡ 0 + length (spans_of f trailer (kept_by f trailer)) = spans_put.place in
             let d : 3 * dropped ≡ 0 + length (listed (dropped_by f trailer)) = whys_put.place in
-            let few : kept + dropped ≤ 256 = omega (arith, s.each, s.within, laid.facts_high) in
+            let few : kept + dropped ≤ 256 = omega (arith, s.each, laid.facts_high) in
             let spans-is = put_whole (record { room = omega arith }) spans_put in
             let whys-is = put_whole (record { room = omega arith }) whys_put in
             record {

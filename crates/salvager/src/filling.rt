@@ -10,36 +10,9 @@ ghost use Rattle.puts.specs.Put.{Put};
 ghost use Rattle.salvager.specs.Sieve.{Sieved};
 
 use crate::Sifted;
-use layout::places::{FACTS_FIELD, TRAILER_SIZE};
+use layout::places::FACTS_FIELD;
 use paper::Trailer;
-
-// n bytes of the file, from p on, unchanged.
-fn copy(out: &mut [u8], at: usize, file: &[u8], p: usize, n: usize) -> usize
-    requires n_in_bounds { at + n ≤ length out.old }
-    requires n_in_bounds_2 { p + n ≤ length file.now }
-    ensures put { Put out.old at (part file.now p n) result out.new }
-    ensures value { result ≡ at + n }
-{
-    let mut i = 0;
-    while i < n {
-        out[at + i] = file[p + i];
-        i += 1;
-    }
-    at + n
-}
-
-// The first n numbers of the table.
-pub fn copy_numbers(list: &mut [u64], whys: &[u64], n: usize)
-    requires n_in_bounds { n ≤ length list.old }
-    requires n_in_bounds_2 { n ≤ length whys.now }
-    ensures { Put list.old 0 (part whys.now 0 n) n list.new }
-{
-    let mut i = 0;
-    while i < n {
-        list[i] = whys[i];
-        i += 1;
-    }
-}
+use puts::word;
 
 // "every kept fact unchanged", one after another. (The reasons are handed on for the contract.)
 fn put_facts(
@@ -56,24 +29,10 @@ fn put_facts(
     ensures value { result ≡ at + s.size }
 {
     let mut to = at;
-    let mut j: u16 = 0;
-    while j < s.kept {
-        let p = spans[2 * (j as usize)];
-        to = copy(out, to, file, p, spans[2 * (j as usize) + 1] - p);
-        j += 1;
+    for j in 0..s.kept as usize {
+        to = word(out, to, &file[spans[2 * j]..spans[2 * j + 1]]);
     }
     to
-}
-
-// "16-bit numbers", "little-endian"
-fn put_count(out: &mut [u8], at: usize, n: u16) -> usize
-    requires { at + 2 ≤ length out.old }
-    ensures put { Put out.old at (words (n ∷ [])) result out.new }
-    ensures value { result ≡ at + 2 }
-{
-    out[at] = (n % 256) as u8;
-    out[at + 1] = (n / 256) as u8;
-    at + 2
 }
 
 // The file's trailer, with n for the number of facts.
@@ -83,15 +42,11 @@ fn put_trailer(out: &mut [u8], at: usize, file: &[u8], n: u16) -> usize
     ensures { Put out.old at (trailer_with file.now n) result out.new }
 {
     let end = layout::end_of(file);
-    let facts = copy(out, at, file, end, FACTS_FIELD);
-    let marks = put_count(out, facts, n);
-    copy(
-        out,
-        marks,
-        file,
-        end + FACTS_FIELD + 2,
-        TRAILER_SIZE - FACTS_FIELD - 2,
-    )
+    let count = end + FACTS_FIELD;
+    let facts = word(out, at, &file[end..count]);
+    // "16-bit numbers", "little-endian"
+    let marks = word(out, facts, &n.to_le_bytes());
+    word(out, marks, &file[count + 2..])
 }
 
 // The graph, the facts, the trailer.
@@ -109,7 +64,7 @@ pub fn put_file(
     requires trailer_size_in_bounds { facts_at trailer + s.size + trailer_size ≤ length out.old }
     ensures { Put out.old 0 (salvaged file.now) result out.new }
 {
-    let graph = copy(out, 0, file, 0, layout::facts_at(trailer));
+    let graph = word(out, 0, &file[..layout::facts_at(trailer)]);
     let facts = put_facts(out, graph, file, s, spans, whys);
     put_trailer(out, facts, file, s.kept)
 }

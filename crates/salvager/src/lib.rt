@@ -12,10 +12,9 @@ ghost use Rattle.salvager.specs.Done.{room_rule, Done};
 mod filling;
 mod sifting;
 
-use filling::{copy_numbers, put_file};
-use layout::Layout;
+use filling::put_file;
 use layout::places::TRAILER_SIZE;
-use paper::{MOST_FACTS, MOST_NODES, Salvage, SalvageAnswer, Trailer, Verdict};
+use paper::{MOST_FACTS, MOST_NODES, Refusal, Salvage, Trailer};
 use sifting::sift;
 
 // The table's two lists: two places a fact that is kept, three numbers a fact that is dropped.
@@ -40,7 +39,7 @@ fn fill(
     whys: &[u64],
     out: &mut [u8],
     dropped: &mut [u64],
-) -> SalvageAnswer
+) -> Result<Salvage, Refusal>
     requires laid { Laid file.now trailer }
     requires trailer_value { trailer ≡ trailer_of file.now }
     requires sieved { Sieved file.now (trailer_of file.now) s spans.now whys.now }
@@ -49,11 +48,11 @@ fn fill(
     let size = layout::facts_at(trailer) + s.size + TRAILER_SIZE;
     let numbers = 3 * (s.dropped as usize);
     if (out.len() < size) | (dropped.len() < numbers) {
-        return SalvageAnswer::Refused(paper::refuse(20, 0));
+        return Err(paper::refuse(20, 0));
     }
     put_file(out, file, trailer, s, spans, whys);
-    copy_numbers(dropped, whys, numbers);
-    SalvageAnswer::Salvaged(Salvage {
+    dropped[..numbers].copy_from_slice(&whys[..numbers]);
+    Ok(Salvage {
         length: size,
         dropped: s.dropped as usize,
     })
@@ -67,7 +66,7 @@ fn sift_and_fill(
     whys: &mut [u64; WHYS],
     out: &mut [u8],
     dropped: &mut [u64],
-) -> SalvageAnswer
+) -> Result<Salvage, Refusal>
     requires laid { Laid file.now trailer }
     requires shaped { Shaped (case_of file.now trailer) }
     requires trailer_value { trailer ≡ trailer_of file.now }
@@ -78,28 +77,27 @@ fn sift_and_fill(
 }
 
 // 6 to 10 and 26, for a file that passes rules 1 to 5.
-fn salvage_in(file: &[u8], trailer: Trailer, out: &mut [u8], dropped: &mut [u64]) -> SalvageAnswer
+fn salvage_in(
+    file: &[u8],
+    trailer: Trailer,
+    out: &mut [u8],
+    dropped: &mut [u64],
+) -> Result<Salvage, Refusal>
     requires laid { Laid file.now trailer }
     requires trailer_value { trailer ≡ trailer_of file.now }
     ensures { Done file.now out.old dropped.old (graph_rules (case_of file.now trailer) (room_rule file.now (length out.old) (length dropped.old))) result out.new dropped.new }
 {
     let mut counts: [u32; MOST_NODES] = [0; MOST_NODES];
-    let graph = graph::graph_rules(file, trailer, &mut counts);
-    if let Verdict::Refused(r) = graph {
-        return SalvageAnswer::Refused(r);
-    }
+    graph::graph_rules(file, trailer, &mut counts)?;
     let mut spans: [usize; SPANS] = [0; SPANS];
     let mut whys: [u64; WHYS] = [0; WHYS];
     sift_and_fill(file, trailer, &mut spans, &mut whys, out, dropped)
 }
 
 // "Refusals: 1 to 10 and 26 as in the check, then 20 if file or list does not fit."
-pub fn salvage(file: &[u8], out: &mut [u8], dropped: &mut [u64]) -> SalvageAnswer
+pub fn salvage(file: &[u8], out: &mut [u8], dropped: &mut [u64]) -> Result<Salvage, Refusal>
     ensures { Done file.now out.old dropped.old (salvage_verdict file.now (length out.old) (length dropped.old)) result out.new dropped.new }
 {
-    let read = layout::layout_of(file);
-    match read {
-        Layout::Read(trailer) => salvage_in(file, trailer, out, dropped),
-        Layout::Refused(r) => SalvageAnswer::Refused(r),
-    }
+    let trailer = layout::layout_of(file)?;
+    salvage_in(file, trailer, out, dropped)
 }

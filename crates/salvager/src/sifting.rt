@@ -8,7 +8,6 @@ ghost use Rattle.puts.specs.Put.{Put};
 ghost use Rattle.salvager.specs.Sieve.{Sieved};
 
 use crate::Sifted;
-use facts::Turn;
 use layout::HEAD_SIZE;
 use paper::{Previous, Refusal, Trailer};
 
@@ -69,29 +68,21 @@ pub fn sift(file: &[u8], trailer: Trailer, spans: &mut [usize], whys: &mut [u64]
     let mut kept: u16 = 0;
     let mut dropped: u16 = 0;
     let mut size: usize = 0;
-    let mut previous = Previous {
-        any: false,
-        block: 0,
-        last: 0,
-    };
-    let mut p: usize = layout::facts_at(trailer);
-    let mut i: u16 = 0;
-    while i < trailer.facts {
-        let r = facts::turn_of(file, trailer, i, previous, p);
-        match r {
-            Turn::Kept(k) => {
+    let mut previous = None;
+    let mut p = layout::facts_at(trailer);
+    for i in 0..trailer.facts {
+        match facts::turn_of(file, trailer, i, previous, p) {
+            Ok(k) => {
                 put_span(spans, kept, p, k.end);
                 kept += 1;
                 size += k.end - p;
-                previous = k.previous;
+                previous = Some(k.previous);
                 p = k.end;
-                i += 1;
             }
-            Turn::Refused(x) => {
+            Err(x) => {
                 put_why(whys, dropped, x);
                 dropped += 1;
                 p = next_place(file, trailer, p);
-                i += 1;
             }
         }
     }

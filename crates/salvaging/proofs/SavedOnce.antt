@@ -8,7 +8,7 @@ use mathlib.Core.List.{List}
 use lib.ListN.{length, take}
 use lib.Seq.{take_all, length-take-le}
 use borrow.Author.Tests.{lt-ltb}
-use Rattle.paper.specs.declared.Verdict.{Verdict}
+use Rattle.paper.specs.Answers.{Verdict}
 use Rattle.listing.proofs.Determined.{printed_determined}
 use Rattle.salvaging.specs.declared.Saved.{Saved}
 use Rattle.salvaging.specs.Said.{verdict_of, rest_of, said_of, Saves}

@@ -1,4 +1,5 @@
 -- What is written and said, by what the salvage answers.
+use Rattle.std.specs.Prelude.{Result, Ok, Err}
 use Prim.Native.Nat.{ℕ, ◌+◌, ◌*◌, ◌≤◌, ◌<◌}
 use native.Mathlib.Omega.{arith}
 use mathlib.Core.Path.{◌≡◌, refl, sym, ◌∙◌, ap, subst}
@@ -7,11 +8,7 @@ use borrow.Author.Tests.{lt-ltb, le-ltb}
 use lib.ListN.{length, get_or, drop, length-append}
 use Rattle.paper.specs.declared.Refusal.{Refusal}
 use Rattle.paper.specs.declared.Salvage.{Salvage}
-use Rattle.paper.specs.declared.SalvageAnswer.{SalvageAnswer}
-use Rattle.paper.specs.declared.SalvageAnswer.TheVariants as SalvageAnswers
-use Rattle.paper.specs.declared.Verdict.{Verdict}
-use Rattle.paper.specs.declared.Verdict.TheVariants.{Accepted, Refused}
-use Rattle.paper.specs.Answers.{refuse}
+use Rattle.paper.specs.Answers.{Verdict, refuse}
 use Rattle.paper.specs.Ceilings.{longest_input}
 use Rattle.paper.specs.Listings.{refusal_line}
 use Rattle.paper.specs.Salvaging.{salvaged, dropped, dropped_list, salvage_verdict, salvage_answer, lent_by}
@@ -26,64 +23,64 @@ use Rattle.salvaging.proofs.SaidTexts.{lines_listed, listed_length}
 use Rattle.salvaging.proofs.Rooms.{both_fit}
 
 -- which of its cases an answer is, and what a salvage has
-abbrev case : SalvageAnswer → ℕ
-case (SalvageAnswers.Salvaged s) = 0
-case (SalvageAnswers.Refused r) = 1
+abbrev case : Result Salvage Refusal → ℕ
+case (Ok s) = 0
+case (Err r) = 1
 
-abbrev kept_of_lem : SalvageAnswer → Salvage
-kept_of_lem (SalvageAnswers.Salvaged s) = s
-kept_of_lem (SalvageAnswers.Refused r) = record { length = 0; dropped = 0 }
+abbrev kept_of_lem : Result Salvage Refusal → Salvage
+kept_of_lem (Ok s) = s
+kept_of_lem (Err r) = record { length = 0; dropped = 0 }
 
-abbrev reason_of : SalvageAnswer → Refusal
-reason_of (SalvageAnswers.Salvaged s) = refuse 0 0
-reason_of (SalvageAnswers.Refused r) = r
+abbrev reason_of : Result Salvage Refusal → Refusal
+reason_of (Ok s) = refuse 0 0
+reason_of (Err r) = r
 
 module _ (f : List ℕ) where
-  accepted_as : (v : Verdict) (s : Salvage) → SalvageAnswers.Salvaged s ≡ salvage_answer f v → (v ≡ Accepted) × (s ≡ record { length = length (salvaged f); dropped = length (dropped f) })
-  accepted_as Accepted s e = (refl, ap kept_of_lem e)
-  accepted_as (Refused r) s e =
+  accepted_as : (v : Verdict) (s : Salvage) → Ok s ≡ salvage_answer f v → (v ≡ Ok tt) × (s ≡ record { length = length (salvaged f); dropped = length (dropped f) })
+  accepted_as (Ok tt) s e = (refl, ap kept_of_lem e)
+  accepted_as (Err r) s e =
       let z : ◌≡◌ {A = ℕ} 0 1 = ap case e in
       absurd (omega arith)
 
-  refused_as : (v : Verdict) (why : Refusal) → SalvageAnswers.Refused why ≡ salvage_answer f v → v ≡ Refused why
-  refused_as Accepted why e =
+  refused_as : (v : Verdict) (why : Refusal) → Err why ≡ salvage_answer f v → v ≡ Err why
+  refused_as (Ok tt) why e =
       let z : ◌≡◌ {A = ℕ} 1 0 = ap case e in
       absurd (omega arith)
-  refused_as (Refused r) why e = ap Refused (sym (ap reason_of e))
+  refused_as (Err r) why e = ap Err (sym (ap reason_of e))
 
   -- a refusal leaves the bytes for the rest as they were
   pub refused_saves : {out text after textAfter : List ℕ} (why : Refusal) (r : Saved) → after ≡ out → r.rest ≡ 0 → Printed (refusal_line why) text r.said textAfter →
-      Saves (Refused why) f out text r after textAfter
+      Saves (Err why) f out text r after textAfter
   refused_saves {out} why r a z p =
       record { rest = record { count = z; fits = omega (arith, z); bytes = a ∙ ap (λ (n : ℕ). drop n out) (sym z) }; said = p }
 
   -- the verdict, where the lent bytes and the lent list are those of the program
-  module _ {out list after listAfter : List ℕ} {a : SalvageAnswer} (p : SalvagePromise f out list a after listAfter) (o : length out ≡ longest_input) (l : length list ≡ list_room) where
+  module _ {out list after listAfter : List ℕ} {a : (Result Salvage Refusal)} (p : SalvagePromise f out list a after listAfter) (o : length out ≡ longest_input) (l : length list ≡ list_room) where
     verdict_as : salvage_verdict f (length out) (length list) ≡ salvage_verdict f longest_input list_room
     verdict_as = rw (o, l) refl
 
     answer_as : a ≡ salvage_answer f (salvage_verdict f longest_input list_room)
     answer_as = salvage_answer_lem _ _ _ _ _ _ p ∙ ap (salvage_answer f) verdict_as
 
-    kept : (s : Salvage) → a ≡ SalvageAnswers.Salvaged s →
-        (salvage_verdict f longest_input list_room ≡ Accepted) × (s ≡ record { length = length (salvaged f); dropped = length (dropped f) })
+    kept : (s : Salvage) → a ≡ Ok s →
+        (salvage_verdict f longest_input list_room ≡ Ok tt) × (s ≡ record { length = length (salvaged f); dropped = length (dropped f) })
     kept s e = accepted_as (salvage_verdict f longest_input list_room) s (sym e ∙ answer_as)
 
-    pub told_refused : {text textAfter : List ℕ} (why : Refusal) (r : Saved) → a ≡ SalvageAnswers.Refused why → r.rest ≡ 0 → Printed (refusal_line why) text r.said textAfter →
+    pub told_refused : {text textAfter : List ℕ} (why : Refusal) (r : Saved) → a ≡ Err why → r.rest ≡ 0 → Printed (refusal_line why) text r.said textAfter →
         Saves (salvage_verdict f longest_input list_room) f out text r after textAfter
     told_refused {text} {textAfter} why r e z q =
-        let v : salvage_verdict f longest_input list_room ≡ Refused why = refused_as _ why (sym e ∙ answer_as) in
+        let v : salvage_verdict f longest_input list_room ≡ Err why = refused_as _ why (sym e ∙ answer_as) in
         let s : after ≡ out = p.bytes ∙ ap (lent_by (salvaged f) out) (verdict_as ∙ v) in
         subst (λ (w : Verdict). Saves w f out text r after textAfter) (sym v) (refused_saves why r s z q)
 
-    pub told_few : (s : Salvage) → a ≡ SalvageAnswers.Salvaged s → 3 * s.dropped ≤ list_room
+    pub told_few : (s : Salvage) → a ≡ Ok s → 3 * s.dropped ≤ list_room
     unfolding dropped_list
     told_few s e =
         let k = kept s e in
         let d : s.dropped ≡ length (dropped f) = ap (λ (x : Salvage). x.dropped) k.1 in
         omega (arith, (both_fit f longest_input list_room k.0).1, listed_length (dropped f))
 
-    lines_said : (s : Salvage) → a ≡ SalvageAnswers.Salvaged s → lines_from (λ i. get_or listAfter i 0) 0 s.dropped ≡ fact_lines (dropped f)
+    lines_said : (s : Salvage) → a ≡ Ok s → lines_from (λ i. get_or listAfter i 0) 0 s.dropped ≡ fact_lines (dropped f)
     unfolding dropped_list
     lines_said s e =
         let k = kept s e in
@@ -95,7 +92,7 @@ module _ (f : List ℕ) where
         let z : 3 * 0 + i ≡ i = omega arith in
         ap (λ (j : ℕ). get_or listAfter j 0) z ∙ ap (λ (x : List ℕ). get_or x i 0) m)
 
-    pub told_salvaged : {text textAfter : List ℕ} (s : Salvage) (r : Saved) → a ≡ SalvageAnswers.Salvaged s → r.rest ≡ s.length →
+    pub told_salvaged : {text textAfter : List ℕ} (s : Salvage) (r : Saved) → a ≡ Ok s → r.rest ≡ s.length →
         Put text 0 (lines_from (λ i. get_or listAfter i 0) 0 s.dropped) r.said textAfter → r.said ≤ length text →
         Saves (salvage_verdict f longest_input list_room) f out text r after textAfter
     told_salvaged {text} {textAfter} s r e n q h =

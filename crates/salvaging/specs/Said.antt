@@ -1,9 +1,7 @@
 -- What `salvage` writes: to standard output the rest, and to standard error the facts that were dropped, in the words of README's table, or the refusal.
-use Rattle.std.specs.Prelude.{ℕ, zero, suc, ◌+◌, ◌*◌, cond, List, [], ◌∷◌, ◌++◌, eqb, ltb, length}
+use Rattle.std.specs.Prelude.{ℕ, zero, suc, ◌+◌, ◌*◌, cond, List, [], ◌∷◌, ◌++◌, eqb, ltb, length, Ok, Err}
 use Rattle.paper.specs.declared.Refusal.{Refusal}
-use Rattle.paper.specs.declared.Verdict.{Verdict}
-use Rattle.paper.specs.declared.Verdict.TheVariants.{Accepted, Refused}
-use Rattle.paper.specs.Answers.{refuse}
+use Rattle.paper.specs.Answers.{Verdict, refuse}
 use Rattle.paper.specs.Ceilings.{longest_input, most_facts}
 use Rattle.paper.specs.Listings.{bytes, decimal, line_of_two, refusal_line}
 use Rattle.paper.specs.Salvaging.{salvaged, dropped, salvage_verdict}
@@ -46,15 +44,15 @@ list_room = 3 * most_facts
 
 -- "the program reads at most 65,536 bytes", as `bounds` does
 unfoldable pub verdict_of : List ℕ → Verdict
-verdict_of input = cond (ltb longest_input (length input)) (Refused (refuse 28 0)) (salvage_verdict input longest_input list_room)
+verdict_of input = cond (ltb longest_input (length input)) (Err (refuse 28 0)) (salvage_verdict input longest_input list_room)
 
 abbrev pub rest_of : List ℕ → Verdict → List ℕ
-rest_of input Accepted = salvaged input
-rest_of input (Refused r) = []
+rest_of input (Ok tt) = salvaged input
+rest_of input (Err r) = []
 
 abbrev pub said_of : List ℕ → Verdict → List ℕ
-said_of input Accepted = fact_lines (dropped input)
-said_of input (Refused r) = refusal_line r
+said_of input (Ok tt) = fact_lines (dropped input)
+said_of input (Err r) = refusal_line r
 
 -- `out` and `after`: the lent bytes for the rest before and after; `text` and `textAfter`: those for what is said.
 pub record Saves (v : Verdict) (input out text : List ℕ) (r : Saved) (after textAfter : List ℕ) : Type 0 where

@@ -9,7 +9,7 @@ ghost use Rattle.puts.specs.Put.{Put};
 ghost use Rattle.listing.specs.Listed.{Printed};
 ghost use Rattle.salvaging.specs.Said as Said;
 
-use paper::{LONGEST_INPUT, Refusal, SalvageAnswer};
+use paper::{LONGEST_INPUT, Refusal};
 
 // How many bytes the rest has, and how many what is said.
 #[derive(Clone, Copy)]
@@ -25,6 +25,8 @@ const LIST: usize = 768;
 pub const LONGEST: usize = 55808;
 
 // What is wrong, in the words of README's table. None has more than 118 bytes.
+// A number, and no enum: it is read from the list that the salvage fills, which C lends too.
+#[tactic(auto, unfolding(crate::specs::Said::wrong))]
 fn wrong(out: &mut [u8], at: usize, number: u64) -> usize
     requires { at + 118 ≤ length out.old }
     ensures put { Put out.old at (Said.wrong number) result out.new }
@@ -100,8 +102,7 @@ fn lines(out: &mut [u8], numbers: &[u64], n: usize) -> usize
     ensures upper_bound { result ≤ 218 * n }
 {
     let mut to = 0;
-    let mut i = 0;
-    while i < n {
+    for i in 0..n {
         to = line(
             out,
             to,
@@ -109,7 +110,6 @@ fn lines(out: &mut [u8], numbers: &[u64], n: usize) -> usize
             numbers[3 * i + 1],
             numbers[3 * i + 2],
         );
-        i += 1;
     }
     to
 }
@@ -121,7 +121,7 @@ fn refused(text: &mut [u8; LONGEST], why: Refusal) -> Saved
 {
     Saved {
         rest: 0,
-        said: print::refusal(text, 0, why),
+        said: listing::refused(text, why),
     }
 }
 
@@ -130,8 +130,8 @@ fn salvaged(input: &[u8], out: &mut [u8; LONGEST_INPUT], text: &mut [u8; LONGEST
 {
     let mut numbers = [0u64; LIST];
     match bolgverk::salvage(input, out, &mut numbers) {
-        SalvageAnswer::Refused(why) => refused(text, why),
-        SalvageAnswer::Salvaged(kept) => Saved {
+        Err(why) => refused(text, why),
+        Ok(kept) => Saved {
             rest: kept.length,
             said: lines(text, &numbers, kept.dropped),
         },

@@ -1,4 +1,5 @@
 -- A table that is settled gives the outcome: no limit where the most that is asked for is 9, else that limit and the rows for it.
+use Rattle.std.specs.Prelude.{Ok}
 use Prim.Native.Nat.{ℕ, suc, ◌*◌, ◌≤◌, ◌<◌}
 use native.Mathlib.Omega.{arith}
 use mathlib.Core.Path.{◌≡◌, sym, ◌∙◌, subst}
@@ -8,7 +9,6 @@ use mathlib.Core.List.{List, [], ◌∷◌, ◌++◌}
 use borrow.Author.Tests.{ltb-false}
 use lib.Dec.{ltb}
 use lib.ListN.{length, get_or, drop}
-use Rattle.paper.specs.declared.Verdict.TheVariants.{Accepted}
 use Rattle.paper.specs.Answers.{tells}
 use Rattle.paper.specs.Cases.{Fact, Case, inside, size, scope_of, fetches}
 use Rattle.paper.specs.Facts.{bad_head, unfetched}
@@ -49,7 +49,7 @@ module _ (f : List ℕ) (scope block : ℕ) where
     pub fetched : unfetched e t ≡ false
     pub fits : rows_length e t ≤ room
 
-  pub kept : (room : ℕ) → find_verdict f scope block room ≡ Accepted → Kept room
+  pub kept : (room : ℕ) → find_verdict f scope block room ≡ Ok tt → Kept room
   unfolding find_verdict sought_rules head_rule fetch_rule
   kept room a =
       let l = layout_kept f _ a in
@@ -64,7 +64,7 @@ module _ (f : List ℕ) (scope block : ℕ) where
         fits = ltb-false _ _ d.0;
       }
 
-  pub asked_of : (room : ℕ) → find_verdict f scope block room ≡ Accepted → ((p : ℕ) → get_or f p 0 < 256) → Asked e t
+  pub asked_of : (room : ℕ) → find_verdict f scope block room ≡ Ok tt → ((p : ℕ) → get_or f p 0 < 256) → Asked e t
   unfolding case_of
   asked_of room a bytes =
       let k = kept room a in
@@ -150,7 +150,7 @@ module _ (f : List ℕ) (scope block : ℕ) where
                   (long, limit_passes e t (rows_of e t table) s.closed s.searched.just most limit (λ j. row_at (words rows) (16 * j)) written);
             }
 
-  module _ (lent : List ℕ) (a : Judged f scope block lent Accepted) (table : List ℕ) (s : Settled e t table) where
+  module _ (lent : List ℕ) (a : Judged f scope block lent (Ok tt)) (table : List ℕ) (s : Settled e t table) where
     pub finds_none : most_to e t table (size (scope_of e t)) ≡ 9 → FindOutcome f scope block lent (tells []) lent
     finds_none q = nothing a (none_below (length lent) (kept (length lent) a) table s q)
 

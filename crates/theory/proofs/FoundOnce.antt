@@ -1,4 +1,5 @@
 -- What is found is found once: of two outcomes of `find` for one input, what they tell and what they leave coincide.
+use Rattle.std.specs.Prelude.{Ok, Err}
 use Prim.Native.Nat.{ℕ, suc, ◌+◌, ◌-◌, ◌*◌, ◌/◌, ◌%◌, ◌≤◌, ◌<◌}
 use native.Mathlib.Omega.{arith}
 use native.Mathlib.Decide.{ℕ_discrete, dec_lt}
@@ -10,9 +11,7 @@ use lib.ListN.{length, get_or, drop}
 use lib.Seq.{ext_get_or}
 use Rattle.paper.specs.declared.Refusal.{Refusal}
 use Rattle.paper.specs.declared.Loop.{Loop}
-use Rattle.paper.specs.declared.Verdict.{Verdict}
-use Rattle.paper.specs.declared.Verdict.TheVariants.{Accepted, Refused}
-use Rattle.paper.specs.Answers.{refuse, Told, tells_why, tells, value_or}
+use Rattle.paper.specs.Answers.{Verdict, refuse, Told, tells_why, tells, value_or}
 use Rattle.paper.specs.Cases.{Row, Fact, Case, inside, size, scope_of}
 use Rattle.paper.specs.Facts.{held}
 use Rattle.paper.specs.Files.{read_case}
@@ -121,8 +120,8 @@ module _ (f : List ℕ) (t : Fact) where
 
 -- the refusal of a verdict
 why : Verdict → Refusal
-why Accepted = refuse 0 0
-why (Refused r) = r
+why (Ok tt) = refuse 0 0
+why (Err r) = r
 
 module _ (f : List ℕ) (scope block : ℕ) (lent : List ℕ) where
   same_found : (l l' : ℕ) (rows rows' : List ℕ) → l ≡ l' → rows ≡ rows' →
@@ -146,7 +145,7 @@ module _ (f : List ℕ) (scope block : ℕ) (lent : List ℕ) where
       same_found l l' rows rows' p (rows_once f t l rows rows' m (subst (λ (x : ℕ). Finds f t x rows') (sym p) m'))
 
   -- "It answers 'none' exactly when no limit up to k has acceptable evidence."
-  pub none_exactly : (told : Told) (after : List ℕ) → FindOutcome f scope block lent told after → Judged f scope block lent Accepted →
+  pub none_exactly : (told : Told) (after : List ℕ) → FindOutcome f scope block lent told after → Judged f scope block lent (Ok tt) →
       (told ≡ tells []) ↔ NoneBelow f (sought (read_case f) scope block) (suc (read_case f).ways)
   none_exactly told after (refused r a) b = never r (sym a ∙ b)
   none_exactly told after (nothing a n) b = (λ p. n, λ m. refl)

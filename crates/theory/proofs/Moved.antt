@@ -1,5 +1,6 @@
 -- A fact's turn depends on the file through its graph and the fact's own bytes alone: where the bytes of a fact that passes its turn stand in another file with the same graph, the fact there ends as far on,
 -- passes its turn, and is the same to the fact after it.
+use Rattle.std.specs.Prelude.{Option}
 use Prim.Native.Nat.{ℕ, ◌+◌, ◌-◌, ◌*◌, ◌≤◌, ◌<◌}
 use native.Mathlib.Omega.{arith}
 use mathlib.Core.Path.{◌≡◌, refl, sym, ◌∙◌, ap}
@@ -58,7 +59,7 @@ module _ (f : List ℕ) (t : Trailer) (g : List ℕ) (u : Trailer) (b : Beside f
             };
       }
 
-  module _ (previous : Previous) (k : KeptTurn f t previous p) where
+  module _ (previous : Option Previous) (k : KeptTurn f t previous p) where
     there : (fact_at f p).scope ≢ none → (fact_at f p).scope < t.loops
     unfolding case_of
     there = (head_sound (case_of f t) (fact_at f p) k.head).scope

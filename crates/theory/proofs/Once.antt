@@ -2,7 +2,7 @@
 use Prim.Native.Nat.{ℕ, zero, suc, ◌≤◌, ◌<◌}
 use native.Mathlib.Omega.{arith}
 use native.Mathlib.Decide.{ℕ_discrete, dec_lt}
-use mathlib.Core.Path.{◌≡◌, refl, sym}
+use mathlib.Core.Path.{◌≡◌, sym}
 use mathlib.Core.Logic.{inl, inr, dite}
 use Rattle.paper.specs.Cases.{Case, scope_of}
 use Rattle.paper.specs.Facts.{previous_of}
@@ -17,7 +17,7 @@ module _ (e : Case) (s : Sound e) (ordered : Ordered e) where
   next_after : (i : ℕ) → suc i < e.facts → After i (suc i)
   next_after i h =
       let n = (says_false (order_says e (previous_of e (e.fact i)) (e.fact (suc i)))).0 (ordered (suc i) h) in
-      (falls (λ p. n (refl, inl p)), λ q. apart (λ p. n (refl, inr (sym q, p))))
+      (falls (λ p. n (inl p)), λ q. apart (λ p. n (inr (sym q, p))))
     where
       falls : ¬ ((e.fact (suc i)).block < (e.fact i).block) → (e.fact i).block ≤ (e.fact (suc i)).block
       falls n = omega arith

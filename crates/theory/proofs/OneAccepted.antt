@@ -1,4 +1,5 @@
 -- The file of one fact holds the same graph, and the fact with its rows. So it is accepted exactly when the rows are as long as they must be and pass.
+use Rattle.std.specs.Prelude.{Ok}
 use Prim.Native.Nat.{ℕ, ◌+◌, ◌*◌, ◌≤◌, ◌<◌}
 use native.Mathlib.Omega.{arith}
 use mathlib.Core.Path.{◌≡◌, sym, ◌∙◌, ap}
@@ -10,7 +11,6 @@ use lib.ListN.{length, get_or, length-append}
 use borrow.Author.Tests.{le-ltb, ltb-false}
 use Rattle.paper.specs.declared.Loop.{Loop}
 use Rattle.paper.specs.declared.Trailer.{Trailer}
-use Rattle.paper.specs.declared.Verdict.TheVariants.{Accepted}
 use Rattle.paper.specs.Machines.{none}
 use Rattle.paper.specs.Cases.{Fact, size, range_of, scope_of, fetches}
 use Rattle.paper.specs.Facts.{none_previous, wrong_order, bad_head, bad_order, unfetched}
@@ -100,7 +100,7 @@ module _ (f : List ℕ) (t : Fact) (rows : List ℕ) (kept : KeptLayout f (trail
     end_of_fact = rw (← head_word 0 place (omega arith) (omega arith)) (ap (λ (l : Loop). place + 6 + 16 * size l) (sym scope_is))
 
     -- the fact ends where the trailer begins: 15, "rows cut short", and 19, "bytes left between last fact and trailer"
-    accepted_one : fact_rules file one Accepted ≡ Accepted → (length rows ≡ 16 * size scope) × SoundEvidence (case_of file one) ((case_of file one).fact 0)
+    accepted_one : fact_rules file one (Ok tt) ≡ Ok tt → (length rows ≡ 16 * size scope) × SoundEvidence (case_of file one) ((case_of file one).fact 0)
     unfolding fact_rules turns_from case_of fact_place
     accepted_one a =
         let b = turn_kept file one 0 none_previous place _ a in
@@ -132,7 +132,7 @@ module _ (f : List ℕ) (t : Fact) (rows : List ℕ) (kept : KeptLayout f (trail
       unfolding case_of unfetched fetches
       same_fetched = sym (unfetched_same (read_case f) (case_of file one) graph with read same there g some_node) ∙ fetched
 
-      one_accepted : Passes (evidence_rules (read_case f) 0 with) → fact_rules file one Accepted ≡ Accepted
+      one_accepted : Passes (evidence_rules (read_case f) 0 with) → fact_rules file one (Ok tt) ≡ Ok tt
       unfolding fact_rules turns_from turn_rules head_rule order_rule body_rules fetch_rule bad_order wrong_order fact_place case_of
       one_accepted a =
           rw (
@@ -147,13 +147,13 @@ module _ (f : List ℕ) (t : Fact) (rows : List ℕ) (kept : KeptLayout f (trail
 -- For a graph that passes 1 to 10 and 26 and an otherwise sound fact, the file with that graph and this one fact with these rows is accepted exactly when the rows pass.
 pub one_fact : (f : List ℕ) (t : Fact) (rows : List ℕ) → Passes (whole_file_rules f) → bad_head (read_case f) t ≡ false → unfetched (read_case f) t ≡ false →
     (room : ℕ) → 321 ≤ room →
-    (verdict (file_with f t rows) room ≡ Accepted) ↔ ((length rows ≡ 16 * size (scope_of (read_case f) t)) × Passes (evidence_rules (read_case f) 0 (with_rows (read_case f) t rows)))
+    (verdict (file_with f t rows) room ≡ Ok tt) ↔ ((length rows ≡ 16 * size (scope_of (read_case f) t)) × Passes (evidence_rules (read_case f) 0 (with_rows (read_case f) t rows)))
 unfolding file_with verdict
 one_fact f t rows passes head fetched room long =
     let kept = tests_kept f _ passes in
-    let g = (graph_kept (read_case f) Accepted (layout_kept f _ passes).1).0 in
+    let g = (graph_kept (read_case f) (Ok tt) (layout_kept f _ passes).1).0 in
     let file = with_facts f (head_bytes t ++ rows) 1 in
-    let by : rule 20 0 (ltb room 321) (file_verdict file) ≡ fact_rules file (holding f 1) Accepted
+    let by : rule 20 0 (ltb room 321) (file_verdict file) ≡ fact_rules file (holding f 1) (Ok tt)
     = rw (le-ltb room 321 long) (judged_by f (head_bytes t ++ rows) 1 passes (omega arith)) in (
       λ a.
           let r = accepted_one f t rows kept g head (sym by ∙ a) in

@@ -1,4 +1,5 @@
 -- The rest of a file that is salvaged: it is accepted, and holds the facts that are kept, unchanged.
+use Rattle.std.specs.Prelude.{Ok}
 use Prim.Native.Nat.{ℕ, ◌+◌, ◌≤◌, ◌<◌}
 use native.Mathlib.Omega.{arith}
 use mathlib.Core.Path.{◌≡◌, refl, ◌∙◌}
@@ -6,7 +7,6 @@ use mathlib.Core.List.{List}
 use lib.ListN.{length, get_or}
 use borrow.Author.Tests.{le-ltb}
 use Rattle.paper.specs.declared.Trailer.{Trailer}
-use Rattle.paper.specs.declared.Verdict.TheVariants.{Accepted}
 use Rattle.paper.specs.Facts.{none_previous}
 use Rattle.paper.specs.Files.{end_at, trailer_of, facts_at, fact_place, read_case}
 use Rattle.paper.specs.Known.{Laid}
@@ -46,7 +46,7 @@ module _ (f : List ℕ) (passes : Passes (whole_file_rules f)) where
   beside =
       record {
         graph = same_graph f parts n layout;
-        shaped = (graph_kept (read_case f) Accepted (layout_kept f _ passes).1).0;
+        shaped = (graph_kept (read_case f) (Ok tt) (layout_kept f _ passes).1).0;
         some_node = laid_out.nodes_low;
       }
 
@@ -64,7 +64,7 @@ module _ (f : List ℕ) (passes : Passes (whole_file_rules f)) where
         room = omega (arith, end_is f parts n layout);
       }
 
-  facts_accepted : fact_rules g u Accepted ≡ Accepted
+  facts_accepted : fact_rules g u (Ok tt) ≡ Ok tt
   unfolding fact_rules fact_place
   facts_accepted =
       let end : fact_place g u (0 + n) ≡ facts_at u + length parts = lined_end f t g u beside (kept f) 0 none_previous (facts_at u) lined refl in
@@ -74,7 +74,7 @@ module _ (f : List ℕ) (passes : Passes (whole_file_rules f)) where
       ∙ rw (le-ltb (fact_place g u n) (end_at g) (omega (arith, last, end_is f parts n layout))) refl
 
   -- "The result is accepted"
-  pub accepted : file_verdict (salvaged f) ≡ Accepted
+  pub accepted : file_verdict (salvaged f) ≡ Ok tt
   unfolding salvaged
   accepted = judged_by f parts n passes few ∙ facts_accepted
 

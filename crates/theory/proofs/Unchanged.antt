@@ -1,4 +1,5 @@
 -- Where every turn passes, every fact is kept and stands where it stood: a sound file is salvaged as itself.
+use Rattle.std.specs.Prelude.{Ok, Option}
 use Prim.Native.Nat.{ℕ, zero, suc, ◌+◌, ◌≤◌}
 use native.Mathlib.Omega.{arith}
 use mathlib.Core.Path.{◌≡◌, refl, sym, ◌∙◌, ap, subst}
@@ -8,8 +9,7 @@ use lib.ListN.{length, take, drop, length-append, length-take}
 use borrow.Author.Tests.{le-ltb, ltb-false}
 use Rattle.paper.specs.declared.Trailer.{Trailer}
 use Rattle.paper.specs.declared.Previous.{Previous}
-use Rattle.paper.specs.declared.Verdict.{Verdict}
-use Rattle.paper.specs.declared.Verdict.TheVariants.{Accepted}
+use Rattle.paper.specs.Answers.{Verdict}
 use Rattle.paper.specs.Lists.{spaced}
 use Rattle.paper.specs.Facts.{none_previous, previous_of, wrong_scope, wrong_head, bad_head}
 use Rattle.paper.specs.Files.{end_at, trailer_of, facts_at, head_end, fact_at, fact_end, fact_place, case_of, read_case}
@@ -29,7 +29,7 @@ use Rattle.theory.proofs.WithFacts.{offsets, graph_length, last_length, last_par
 
 module _ (f : List ℕ) (t : Trailer) where
   -- a fact that passes its turn is not cut short
-  whole : (previous : Previous) (p : ℕ) → KeptTurn f t previous p → cut_short f t p ≡ false
+  whole : (previous : Option Previous) (p : ℕ) → KeptTurn f t previous p → cut_short f t p ≡ false
   unfolding cut_short bad_head wrong_head case_of
   whole previous p k =
       rw (
@@ -39,10 +39,10 @@ module _ (f : List ℕ) (t : Trailer) where
       )
       refl
 
-  abbrev from : ℕ → ℕ → Previous → ℕ → List ℕ
+  abbrev from : ℕ → ℕ → Option Previous → ℕ → List ℕ
   from n i previous p = kept_of (judged_from f t n i previous p)
 
-  one_kept : (n i : ℕ) (previous : Previous) (p : ℕ) → KeptTurn f t previous p →
+  one_kept : (n i : ℕ) (previous : Option Previous) (p : ℕ) → KeptTurn f t previous p →
       from (suc n) i previous p ≡ p ∷ from n (suc i) (previous_of (case_of f t) (fact_at f p)) (fact_end f t p)
   unfolding judged_from next_place
   one_kept n i previous p k = rw (turn_passes f t i previous p k, whole previous p k) refl
@@ -54,8 +54,8 @@ module _ (f : List ℕ) (t : Trailer) where
     end : p + length (fact_parts f t places) ≡ fact_place f t (i + n)
     room : p ≤ end_at f → fact_place f t (i + n) ≤ end_at f
 
-  all_kept : (n i : ℕ) (previous : Previous) (p : ℕ) (rest : Verdict) → fact_place f t i ≡ p → turns_from f t n i previous p rest ≡ Accepted →
-      Unbroken n i p (from n i previous p) × (rest ≡ Accepted)
+  all_kept : (n i : ℕ) (previous : Option Previous) (p : ℕ) (rest : Verdict) → fact_place f t i ≡ p → turns_from f t n i previous p rest ≡ Ok tt →
+      Unbroken n i p (from n i previous p) × (rest ≡ Ok tt)
   unfolding turns_from judged_from fact_place
   all_kept zero i previous p rest e h =
       let z : i + 0 ≡ i = omega arith in
@@ -95,12 +95,12 @@ module _ (f : List ℕ) (b : Bytes f) (layout : KeptLayout f (trailer_of f)) whe
       (stands_move f _ (omega (arith, length_words ((trailer_of f).facts ∷ []))) (stands_drop f (end_at f) 24 last all))))
 
 -- "when the first file was already sound it is the same file"
-pub salvaged_same : (f : List ℕ) → Bytes f → file_verdict f ≡ Accepted → salvaged f ≡ f
+pub salvaged_same : (f : List ℕ) → Bytes f → file_verdict f ≡ Ok tt → salvaged f ≡ f
 unfolding salvaged with_facts judged fact_rules fact_place
 salvaged_same f b a =
     let t = trailer_of f in
     let layout = tests_kept f _ a in
-    let facts : fact_rules f t Accepted ≡ Accepted = (graph_kept (read_case f) _ (layout_kept f _ a).1).2 in
+    let facts : fact_rules f t (Ok tt) ≡ (Ok tt) = (graph_kept (read_case f) _ (layout_kept f _ a).1).2 in
     let all = all_kept f t t.facts 0 none_previous (facts_at t) _ refl facts in
     let parts = fact_parts f t (kept f) in
     let n = length (kept f) in

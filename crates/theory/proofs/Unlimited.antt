@@ -1,4 +1,5 @@
 -- Where no loop has a W the counts and entries are the products of document 01. E is at most N there, so the lesser is E, and all numbers are document 01's: a file of version 1 keeps its numbers.
+use Rattle.std.specs.Prelude.{Ok}
 use Prim.Native.Nat.{ℕ, zero, suc, ◌-◌, ◌*◌, ◌≤◌, ◌<◌}
 use native.Mathlib.Omega.{arith}
 use native.Mathlib.Decide.{ℕ_discrete, dec_lt}
@@ -10,7 +11,6 @@ use mathlib.Core.List.{List}
 use borrow.Author.Tests.{eq-eqb, ne_eqb, le-ltb}
 use lib.Dec.{ltb}
 use Rattle.paper.specs.declared.Loop.{Loop}
-use Rattle.paper.specs.declared.Verdict.TheVariants.{Accepted}
 use Rattle.paper.specs.Lists.{chain, product_to, lowest_to}
 use Rattle.paper.specs.Machines.{none}
 use Rattle.paper.specs.Cases.{Fact, Case, unlimited, inside, range_of, scope_of}
@@ -189,5 +189,5 @@ unfolding case_of loop_at
 version_one f h j = visits_without (trailer_of f).version _ h
 
 -- "and gives its old numbers"
-pub old_numbers : (f : List ℕ) (room : ℕ) → (trailer_of f).version ≡ without_w → verdict f room ≡ Accepted → numbers (read_case f) 0 ≡ product_numbers (read_case f)
+pub old_numbers : (f : List ℕ) (room : ℕ) → (trailer_of f).version ≡ without_w → verdict f room ≡ Ok tt → numbers (read_case f) 0 ≡ product_numbers (read_case f)
 old_numbers f room v h = numbers_product (read_case f) (λ j l. version_one f v j) (file_sound f (enough f room h)).1

@@ -1,4 +1,5 @@
 -- A file's graph with other facts, part by part: the graph's bytes, the facts and the trailer stand where they are read. It keeps the rules 1 to 5 and holds the same graph, so it is judged by its facts.
+use Rattle.std.specs.Prelude.{Ok}
 use Prim.Native.Nat.{ℕ, ◌+◌, ◌-◌, ◌*◌, ◌≤◌, ◌<◌}
 use native.Mathlib.Omega.{arith}
 use mathlib.Core.Path.{◌≡◌, refl, sym, ◌∙◌, ap}
@@ -8,7 +9,6 @@ use lib.ListN.{length, take, drop, length-append, length-take, length-drop, get_
 use lib.Seq.{get_or-take, ext_get_or}
 use borrow.Author.Tests.{le-ltb, eq-eqb}
 use Rattle.paper.specs.declared.Trailer.{Trailer}
-use Rattle.paper.specs.declared.Verdict.TheVariants.{Accepted}
 use Rattle.paper.specs.Files.{u8_at, u16_at, u32_at, end_at, trailer_of, bad_letter, bad_letters, bad_numbers, bad_offsets, edges_at, loop_place, facts_at, node_at, from_at, to_at, loop_at, case_of, read_case}
 use Rattle.paper.specs.Rules.{Passes}
 use Rattle.paper.specs.Verdicts.{graph_rules, fact_rules, whole_file_rules, file_verdict}
@@ -235,14 +235,14 @@ module _ (f facts : List ℕ) (n : ℕ) (kept : KeptLayout f (trailer_of f)) whe
       }
 
 -- A graph that passes 1 to 10 and 26 passes them with other facts too: the file is judged by its facts.
-pub judged_by : (f facts : List ℕ) (n : ℕ) → Passes (whole_file_rules f) → n ≤ 256 → file_verdict (with_facts f facts n) ≡ fact_rules (with_facts f facts n) (holding f n) Accepted
+pub judged_by : (f facts : List ℕ) (n : ℕ) → Passes (whole_file_rules f) → n ≤ 256 → file_verdict (with_facts f facts n) ≡ fact_rules (with_facts f facts n) (holding f n) (Ok tt)
 judged_by f facts n passes few =
     let kept = tests_kept f _ passes in
     let file = with_facts f facts n in
     let trailer = holding f n in
-    let rest = fact_rules file trailer Accepted in
-    let graph : graph_rules (read_case f) Accepted ≡ Accepted = (layout_kept f _ passes).1 in
-    layout_on file trailer (trailer_is f facts n kept) (layout f facts n kept few) (graph_rules (read_case file) (fact_rules file (trailer_of file) Accepted))
-    ∙ ap (λ (t : Trailer). graph_rules (case_of file t) (fact_rules file t Accepted)) (trailer_is f facts n kept)
+    let rest = fact_rules file trailer (Ok tt) in
+    let graph : graph_rules (read_case f) (Ok tt) ≡ (Ok tt) = (layout_kept f _ passes).1 in
+    layout_on file trailer (trailer_is f facts n kept) (layout f facts n kept few) (graph_rules (read_case file) (fact_rules file (trailer_of file) (Ok tt)))
+    ∙ ap (λ (t : Trailer). graph_rules (case_of file t) (fact_rules file t (Ok tt))) (trailer_is f facts n kept)
     ∙ sym (graph_same _ _ (same_graph f facts n kept) rest)
-    ∙ accepted_on (graph_rules (read_case f)) (hands_graph (read_case f)) rest Accepted (sym graph) refl
+    ∙ accepted_on (graph_rules (read_case f)) (hands_graph (read_case f)) rest (Ok tt) (sym graph) refl

@@ -1,6 +1,5 @@
 pub mod Firsts
 pub mod Pushing
-pub mod Products
 pub mod Looking
 pub mod Numbering
 pub mod Taking

@@ -11,12 +11,17 @@ use lib.Seq.{get_or-set_same, get_or-set_other}
 use Rattle.paper.specs.Lists.{highest_to}
 use Rattle.paper.specs.Ceilings.{most_nodes}
 use Rattle.paper.specs.Cases.{Case}
+use Rattle.paper.specs.Known.{Shaped}
 use Rattle.paper.specs.Times.{step_first}
 use Rattle.timing.specs.Pushed.{cut, carried, before_to}
 use Rattle.timing.specs.Ready.{entry}
 use Rattle.timing.specs.Numbered.{Zeros, Numbered}
 use Rattle.timing.proofs.Firsts.{first_le}
 use Rattle.timing.proofs.Looking.{number_same}
+
+-- the ends of an edge are nodes
+pub ends : (e : Case) → Shaped e → (i u v : ℕ) → i < e.edges → u ≡ e.from i → v ≡ e.to i → (u < e.nodes) × (v < e.nodes)
+ends e shape i u v h p q = (omega (arith, p, shape.ends i h), omega (arith, q, shape.ends i h))
 
 pub zeros_start : (n : ℕ) → n ≤ most_nodes → Zeros n (replicate most_nodes 0)
 zeros_start n h = record { room = omega (arith, length-replicate {A = ℕ} most_nodes 0); zero = λ v l. get_or-replicate most_nodes v 0 0 (omega arith) }
@@ -61,18 +66,8 @@ module _ (e : Case) (cost : ℕ → ℕ) (times : List ℕ) (k a : ℕ) (table :
               ];
         }
 
-  pub numbered_end : (i n : ℕ) → Numbered e cost times k a i table → i ≤ n → n ≤ i → Numbered e cost times k a n table
-  numbered_end i n w p q =
-      let z : n ≡ i = omega arith in
-      rw z w
-
 -- the greatest so far
 module _ (g : ℕ → ℕ) where
   pub greatest_more : (v x n r : ℕ) → x ≡ highest_to g v → n ≡ g v → r ≡ max x n → r ≡ highest_to g (v + 1)
   unfolding highest_to
   greatest_more v x n r p q z = rw add-one (omega (arith, p, q, z))
-
-  pub greatest_end : (v n x : ℕ) → x ≡ highest_to g v → v ≤ n → n ≤ v → x ≡ highest_to g n
-  greatest_end v n x p a b =
-      let z : n ≡ v = omega arith in
-      rw z p

@@ -79,12 +79,6 @@ module _ (f : List ℕ) (trailer : Trailer) (costs : List ℕ) where
         go v b (fails o) =
             filled_out d v (λ q. o (q.0, omega (arith, q.1))) ∙ w.step v b ∙ sym (loop_out (case_of f trailer) n below v (rw is at o))
 
-  -- all loops are steps
-  pub ready_end : (j : ℕ) (steps times : List ℕ) → Ready f trailer costs j steps times → j ≤ 0 → Ready f trailer costs 0 steps times
-  ready_end j steps times w h =
-      let z : 0 ≡ j = omega arith in
-      rw z w
-
   -- "the longest way": h is the greatest number of the table after all edges
   pub longest_found :
       Shaped (case_of f trailer) → (k a m : ℕ) (steps times table : List ℕ) → Ready f trailer costs k steps times

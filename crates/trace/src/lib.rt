@@ -6,7 +6,7 @@ ghost use Rattle.paper.specs.Lists as Lists;
 ghost use Rattle.paper.specs.Traces as Traces;
 ghost use Rattle.trace.specs.Eights.{some_of, Clear};
 
-use paper::TraceAnswer;
+use paper::{Policy, Refusal};
 
 // Whether one of eight accesses from i on has no block: all eight are compared at once.
 fn has_none(blocks: &[u16], i: usize) -> bool
@@ -27,6 +27,7 @@ fn passed_eights(blocks: &[u16]) -> usize
     ensures { Clear blocks.now result }
 {
     let mut i: usize = 0;
+    // `while`: i goes from eight accesses to the next eight.
     while 8 <= blocks.len() - i {
         if has_none(blocks, i) {
             return i;
@@ -40,31 +41,38 @@ fn passed_eights(blocks: &[u16]) -> usize
 pub fn bad_access(blocks: &[u16]) -> usize
     ensures { result ≡ Lists.least (Traces.bad_access blocks.now) (length blocks.now) }
 {
-    let mut i = passed_eights(blocks);
-    while i < blocks.len() {
+    for i in passed_eights(blocks)..blocks.len() {
         if blocks[i] == 65535 {
             return i;
         }
-        i += 1;
     }
-    i
+    blocks.len()
 }
 
 // "Trace run: 3, 20, 21."
-pub fn trace_run(policy: u8, ways: u8, sets: u8, blocks: &[u16], marks: &mut [u8]) -> TraceAnswer
+pub fn trace_run(
+    policy: u8,
+    ways: u8,
+    sets: u8,
+    blocks: &[u16],
+    marks: &mut [u8],
+) -> Result<usize, Refusal>
     ensures value { result ≡ (Traces.trace_run policy ways sets blocks.now marks.old).answer }
     ensures marks_after { marks.new ≡ (Traces.trace_run policy ways sets blocks.now marks.old).marks }
 {
-    if !paper::is_in_range(policy, ways, sets) {
-        return TraceAnswer::Refused(paper::refuse(3, 0));
+    let Some(machine) = Policy::with_ways(policy, ways) else {
+        return Err(paper::refuse(3, 0));
+    };
+    if !paper::is_set_count(sets) {
+        return Err(paper::refuse(3, 0));
     }
     if marks.len() < blocks.len() {
-        return TraceAnswer::Refused(paper::refuse(20, 0));
+        return Err(paper::refuse(20, 0));
     }
     let at = bad_access(blocks);
     if at < blocks.len() {
-        return TraceAnswer::Refused(paper::refuse(21, at));
+        return Err(paper::refuse(21, at));
     }
-    let misses = runs::run(policy, ways as usize, sets, blocks, marks);
-    TraceAnswer::Misses(misses)
+    let misses = runs::run(machine, ways as usize, sets, blocks, marks);
+    Ok(misses)
 }

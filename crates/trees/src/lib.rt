@@ -1,4 +1,4 @@
-// The tree's step: a miss by one table, and what an access turns by another, each for 2, 4 and 8 ways at once. A table is handed over, since it is made where it is named.
+// The tree's step: a miss by one table, and what an access turns by another, each for 2, 4 and 8 ways at once.
 #![tactic(auto)]
 
 ghost use Rattle.std.specs.Prelude.{◌≡◌, true, ◌≢◌, ◌^◌, ◌<◌, ◌-◌};
@@ -45,6 +45,18 @@ const ONES: [u8; 15] = [
 // and of bits that are all 0.
 const ZEROS: [u8; 15] = [0, 1, 0, 3, 1, 4, 0, 11, 3, 17, 1, 36, 4, 64, 0];
 
+// The three tables, wherever they lie.
+#[derive(Clone, Copy)]
+pub struct TreeTables<'a> {
+    pub misses: &'a [u16; 256],
+    pub ones: &'a [u8; 15],
+    pub zeros: &'a [u8; 15],
+    ghost misses_made: { misses.now ≡ tree_misses },
+    ghost ones_made: { ones.now ≡ turned_ones },
+    ghost zeros_made: { zeros.now ≡ turned_zeros },
+}
+
+// A table of its own, made where it is asked for: a run reaches it with fewer instructions.
 pub fn misses() -> [u16; 256]
     ensures { result ≡ tree_misses }
 {
@@ -63,82 +75,84 @@ pub fn zeros() -> [u8; 15]
     ZEROS
 }
 
-// What a miss makes of these bits.
-pub fn missed(k: usize, bits: u8, misses: &[u16; 256]) -> u16
-    requires k_value { offered tree_policy k ≡ true }
-    requires bits_bound { bits < 2 ^ (k - 1) }
-    requires misses_value { misses.now ≡ tree_misses }
-    ensures { result ≡ at_miss k bits }
-{
-    let first: usize = 1 << (k - 1);
-    misses[first + (bits as usize)]
-}
+// These lie where the program does: whoever looks at them once makes no copy.
+static STILL_MISSES: [u16; 256] = MISSES;
 
-// "Each access turns the bits on its line's path away from it": those that are 1 in both tables become 1, those that are 0 in both become 0.
-pub fn turn(k: usize, bits: u8, bit: u16, ones: &[u8; 15], zeros: &[u8; 15]) -> u8
-    requires k_value { offered tree_policy k ≡ true }
-    requires bits_bound { bits < 2 ^ (k - 1) }
-    requires bit { Bit k bit }
-    requires ones_value { ones.now ≡ turned_ones }
-    requires zeros_value { zeros.now ≡ turned_zeros }
-    ensures { result ≡ turned k bits (count_trailing_zeros 32 bit) }
-{
-    let j = u32::trailing_zeros(bit as u32) as usize;
-    let at = k - 1 + j;
-    bits & ones[at] | zeros[at]
-}
+static STILL_ONES: [u8; 15] = ONES;
 
-// The line that an access goes to: the block's, or "that line, empty or not". A guess at the line's bit comes with the block, as in an NMRU run.
-pub fn line(state: SetState, k: usize, block: Block, guess: u8, misses: &[u16; 256]) -> Line
-    requires k_value { offered tree_policy k ≡ true }
-    requires state_value { legal tree_policy k state ≡ true }
-    requires block_nonzero { block.0 ≢ none }
-    requires misses_value { misses.now ≡ tree_misses }
-    ensures { result ≡ tree_line_for k state block.0 }
-{
-    let lines = state.lines;
-    let w = lines::weight(lines, block.0);
-    let guessed = (guess % 255) as u16;
-    if w == 255 - guessed {
-        return Line {
-            bit: guessed,
-            hit: true,
-        };
-    }
-    if 0 < w {
-        return Line {
-            bit: 255 - w,
-            hit: true,
-        };
-    }
-    Line {
-        bit: missed(k, state.bits, misses) % 256,
-        hit: false,
+static STILL_ZEROS: [u8; 15] = ZEROS;
+
+pub fn tables() -> TreeTables<'static> {
+    TreeTables {
+        misses: &STILL_MISSES,
+        ones: &STILL_ONES,
+        zeros: &STILL_ZEROS,
     }
 }
 
-// One step at the access's line. A miss has its line and the bits after it from one entry, so that the next access need not wait for the line.
-pub fn step(
-    state: SetState,
-    k: usize,
-    block: Block,
-    line: Line,
-    misses: &[u16; 256],
-    ones: &[u8; 15],
-    zeros: &[u8; 15],
-) -> Stepped
-    requires k_value { offered tree_policy k ≡ true }
-    requires state_value { legal tree_policy k state ≡ true }
-    requires line_value { line ≡ tree_line_for k state block.0 }
-    requires misses_value { misses.now ≡ tree_misses }
-    requires ones_value { ones.now ≡ turned_ones }
-    requires zeros_value { zeros.now ≡ turned_zeros }
-    ensures { result ≡ tree_step k state block.0 }
-{
-    if line.hit {
-        return state.placed(k, block, line, turn(k, state.bits, line.bit, ones, zeros));
+impl TreeTables<'_> {
+    // What a miss makes of these bits.
+    pub fn missed(self, k: usize, bits: u8) -> u16
+        requires k_value { offered tree_policy k ≡ true }
+        requires bits_bound { bits < 2 ^ (k - 1) }
+        ensures { result ≡ at_miss k bits }
+    {
+        let first: usize = 1 << (k - 1);
+        self.misses[first + (bits as usize)]
     }
-    state.placed(k, block, line, (missed(k, state.bits, misses) / 256) as u8)
+
+    // "Each access turns the bits on its line's path away from it": those that are 1 in both tables become 1, those that are 0 in both become 0.
+    pub fn turn(self, k: usize, bits: u8, bit: u16) -> u8
+        requires k_value { offered tree_policy k ≡ true }
+        requires bits_bound { bits < 2 ^ (k - 1) }
+        requires bit { Bit k bit }
+        ensures { result ≡ turned k bits (count_trailing_zeros 32 bit) }
+    {
+        let j = u32::trailing_zeros(bit as u32) as usize;
+        let at = k - 1 + j;
+        bits & self.ones[at] | self.zeros[at]
+    }
+
+    // The line that an access goes to: the block's, or "that line, empty or not". A guess at the line's bit comes with the block, as in an NMRU run.
+    pub fn line(self, state: SetState, k: usize, block: Block, guess: u8) -> Line
+        requires k_value { offered tree_policy k ≡ true }
+        requires state_value { legal tree_policy k state ≡ true }
+        requires block_nonzero { block.0 ≢ none }
+        ensures { result ≡ tree_line_for k state block.0 }
+    {
+        let lines = state.lines;
+        let w = lines::weight(lines, block.0);
+        let guessed = (guess % 255) as u16;
+        if w == 255 - guessed {
+            return Line {
+                bit: guessed,
+                hit: true,
+            };
+        }
+        if 0 < w {
+            return Line {
+                bit: 255 - w,
+                hit: true,
+            };
+        }
+        Line {
+            bit: self.missed(k, state.bits) % 256,
+            hit: false,
+        }
+    }
+
+    // One step at the access's line. A miss has its line and the bits after it from one entry, so that the next access need not wait for the line.
+    pub fn step(self, state: SetState, k: usize, block: Block, line: Line) -> Stepped
+        requires k_value { offered tree_policy k ≡ true }
+        requires state_value { legal tree_policy k state ≡ true }
+        requires line_value { line ≡ tree_line_for k state block.0 }
+        ensures { result ≡ tree_step k state block.0 }
+    {
+        if line.hit {
+            return state.placed(k, block, line, self.turn(k, state.bits, line.bit));
+        }
+        state.placed(k, block, line, (self.missed(k, state.bits) / 256) as u8)
+    }
 }
 
 // One step by itself.
@@ -148,9 +162,7 @@ pub fn step_alone(state: SetState, k: usize, block: Block) -> Stepped
     requires block_nonzero { block.0 ≢ none }
     ensures { result ≡ tree_step k state block.0 }
 {
-    let table = MISSES;
-    let all_ones = ONES;
-    let all_zeros = ZEROS;
-    let to = line(state, k, block, 0, &table);
-    step(state, k, block, to, &table, &all_ones, &all_zeros)
+    let tables = tables();
+    let to = tables.line(state, k, block, 0);
+    tables.step(state, k, block, to)
 }

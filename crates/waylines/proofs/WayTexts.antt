@@ -1,4 +1,5 @@
 -- What is printed, by what the operation answers, and that 2,097,155 bytes of the input are enough to read.
+use Rattle.std.specs.Prelude.{Result, Ok, Err}
 use Prim.Native.Nat.{ℕ, ◌+◌, ◌-◌, ◌*◌, ◌/◌, ◌%◌, ◌^◌, ◌≤◌, ◌<◌}
 use native.Mathlib.Omega.{arith}
 use native.Mathlib.Decide.{dec_le}
@@ -10,10 +11,8 @@ use lib.ListN.{length, get_or, take, drop}
 use lib.Seq.{take_all, length-take-le}
 use borrow.Author.Tests.{lt-ltb, lt-leb, le-leb}
 use Rattle.paper.specs.declared.Refusal.{Refusal}
-use Rattle.paper.specs.declared.Verdict.TheVariants.{Accepted, Refused}
-use Rattle.paper.specs.declared.WaysAnswer.{WaysAnswer}
-use Rattle.paper.specs.AllWays.{misses_with, ways_verdict, ways_counts, all_ways}
-use Rattle.paper.specs.Answers.{refuse}
+use Rattle.paper.specs.AllWays.{misses_with, ways_verdict, counted, all_ways}
+use Rattle.paper.specs.Answers.{Verdict, refuse}
 use Rattle.paper.specs.Listings.{bytes, decimal, decimal_in, lines_from, refusal_line}
 use Rattle.paper.specs.Lists.{table}
 use Rattle.paper.specs.Machines.{set_count}
@@ -42,20 +41,36 @@ module _ (sets : ℕ) (blocks : List ℕ) where
   unfolding lines_from table
   counted_lines = refl
 
-  module _ {a : WaysAnswer} (p : WaysPromise sets blocks a) where
-    verdict_as : a.verdict ≡ ways_verdict sets blocks
+  -- what is printed of a verdict, from what the operation answers by it
+  said_refused : (v : Verdict) (r : Refusal) → counted sets blocks v ≡ Err r → refusal_line r ≡ said_for sets blocks v
+  said_refused (Ok tt) r e =
+      let z : ◌≡◌ {A = ℕ} 0 1 = cc in
+      absurd (omega arith)
+  said_refused (Err x) r e =
+      let q : x ≡ r = cc in
+      ap refusal_line (sym q)
+
+  said_counts : (v : Verdict) (counts : List ℕ) → counted sets blocks v ≡ Ok counts → count_lines counts ≡ said_for sets blocks v
+  unfolding table
+  said_counts (Ok tt) counts e =
+      let q : table (λ j. misses_with sets blocks (1 + j)) 8 ≡ counts = cc in
+      ap count_lines (sym q) ∙ counted_lines
+  said_counts (Err r) counts e =
+      let z : ◌≡◌ {A = ℕ} 0 1 = cc in
+      absurd (omega arith)
+
+  module _ {a : Result (List ℕ) Refusal} (p : WaysPromise sets blocks a) where
+    answer_as : a ≡ counted sets blocks (ways_verdict sets blocks)
     unfolding all_ways
-    verdict_as = ap (λ (x : WaysAnswer). x.verdict) (ways_answer sets blocks a p)
+    answer_as = ways_answer sets blocks a p
 
-    pub refused_as : (r : Refusal) → a.verdict ≡ Refused r → refusal_line r ≡ printed_for sets blocks
+    pub refused_as : (r : Refusal) → a ≡ Err r → refusal_line r ≡ printed_for sets blocks
     unfolding printed_for
-    refused_as r e = ap (said_for sets blocks) (sym e ∙ verdict_as)
+    refused_as r e = said_refused _ r (sym answer_as ∙ e)
 
-    pub accepted_as : a.verdict ≡ Accepted → count_lines a.counts ≡ printed_for sets blocks
-    unfolding printed_for all_ways table
-    accepted_as e =
-        let v : ways_verdict sets blocks ≡ Accepted = sym verdict_as ∙ e in
-        ap count_lines (p.counts ∙ ap (ways_counts sets blocks) v) ∙ counted_lines ∙ ap (said_for sets blocks) (sym v)
+    pub accepted_as : (counts : List ℕ) → a ≡ Ok counts → count_lines counts ≡ printed_for sets blocks
+    unfolding printed_for
+    accepted_as counts e = said_counts _ counts (sym answer_as ∙ e)
 
   no_count : 255 < sets → set_count sets ≡ false
   unfolding set_count

@@ -1,9 +1,7 @@
 -- What `ways` prints: a line for each number of ways, or the refusal. Its input is numbers of 16 bits, little-endian: the number of sets, and then the trace.
-use Rattle.std.specs.Prelude.{ℕ, ◌+◌, ◌-◌, ◌*◌, ◌/◌, ◌%◌, Bool, cond, ◌&&◌, List, eqb, leb, length, get_or, drop}
-use Rattle.paper.specs.declared.Verdict.{Verdict}
-use Rattle.paper.specs.declared.Verdict.TheVariants.{Accepted, Refused}
+use Rattle.std.specs.Prelude.{ℕ, ◌+◌, ◌-◌, ◌*◌, ◌/◌, ◌%◌, Bool, cond, ◌&&◌, List, eqb, leb, length, get_or, drop, Ok, Err}
 use Rattle.paper.specs.AllWays.{misses_with, ways_verdict}
-use Rattle.paper.specs.Answers.{refuse}
+use Rattle.paper.specs.Answers.{Verdict, refuse}
 use Rattle.paper.specs.Files.{u16_at}
 use Rattle.paper.specs.Listings.{bytes, lines_from, refusal_line}
 use Rattle.frames.specs.Little.{u16s}
@@ -32,8 +30,8 @@ count_lines counts = way_lines (λ w. get_or counts (w - 1) 0)
 
 -- "no count returned"
 abbrev pub said_for : ℕ → List ℕ → Verdict → List ℕ
-said_for sets blocks Accepted = way_lines (misses_with sets blocks)
-said_for sets blocks (Refused r) = refusal_line r
+said_for sets blocks (Ok tt) = way_lines (misses_with sets blocks)
+said_for sets blocks (Err r) = refusal_line r
 
 unfoldable pub printed_for : ℕ → List ℕ → List ℕ
 printed_for sets blocks = said_for sets blocks (ways_verdict sets blocks)

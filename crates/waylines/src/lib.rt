@@ -3,13 +3,11 @@
 
 ghost use Rattle.std.specs.Prelude.{◌≡◌, ◌+◌, ◌*◌, ◌≤◌, length, true};
 ghost use Rattle.frames.specs.Room.{accesses};
-ghost use Rattle.paper.specs.Listings.{refusal_line};
-ghost use Rattle.puts.specs.Put.{Fits, Put};
 ghost use Rattle.listing.specs.Listed.{Printed};
 ghost use Rattle.waylines.specs.WayLines as WayLines;
 
 use frames::numbers;
-use paper::{Refusal, Verdict};
+use listing::refused;
 
 // As many accesses as a trace can have in the pipe.
 const ACCESSES: usize = 1048576;
@@ -28,43 +26,19 @@ fn is_whole(n: usize) -> bool
 }
 
 // "one way, two ways and so on up to eight"
-fn lines(out: &mut [u8], counts: &[u64]) -> usize
-    requires counts_len { length counts.now ≡ 8 }
-    requires fits { Fits out.old 0 (WayLines.count_lines counts.now) }
-    ensures { Put out.old 0 (WayLines.count_lines counts.now) result out.new }
-{
-    let mut to = 0;
-    let mut w = 1;
-    while w < 9 {
-        to = print::line_of_two(out, to, b"ways ", w as u64, counts[w - 1]);
-        w += 1;
-    }
-    to
-}
-
 fn accepted(out: &mut [u8; LONGEST], counts: &[u64]) -> usize
     requires { length counts.now ≡ 8 }
     ensures { Printed (WayLines.count_lines counts.now) out.old result out.new }
 {
-    lines(out, counts)
-}
-
-// "A refusal prints `refused`, number, place." "A printed refusal ends with the second place."
-fn refused(out: &mut [u8; LONGEST], why: Refusal) -> usize
-    ensures { Printed (refusal_line why) out.old result out.new }
-{
-    print::refusal(out, 0, why)
+    listing::lines(out, 0, b"ways ", 1, counts)
 }
 
 fn answered(sets: u8, blocks: &[u16], out: &mut [u8; LONGEST]) -> usize
     ensures { Printed (WayLines.printed_for sets blocks.now) out.old result out.new }
 {
-    let answer = bolgverk::all_ways(sets, blocks);
-    let counts = answer.counts;
-    let verdict = answer.verdict;
-    match verdict {
-        Verdict::Refused(why) => refused(out, why),
-        Verdict::Accepted => accepted(out, &counts),
+    match bolgverk::all_ways(sets, blocks) {
+        Err(why) => refused(out, why),
+        Ok(counts) => accepted(out, &counts),
     }
 }
 
@@ -74,7 +48,7 @@ fn counted(input: &[u8], blocks: &mut [u16], out: &mut [u8; LONGEST]) -> usize
     ensures { Printed (WayLines.printed_for (WayLines.sets_in input.now) (WayLines.trace_in input.now)) out.old result out.new }
 {
     let sets = layout::u16_at(input, 0);
-    numbers::read_blocks_at(input, 2, blocks);
+    numbers::read_list_at(input, 2, blocks);
     if sets > 255 {
         refused(out, paper::refuse(3, 0))
     } else {

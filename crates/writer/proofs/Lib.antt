@@ -1,6 +1,5 @@
 pub mod LoopBytes
 pub mod Words
 pub mod Joined
-pub mod Trailers
 pub mod Sizes
 pub mod Written

@@ -15,12 +15,6 @@ use Rattle.paper.proofs.LoopSizes.{size_high}
 use Rattle.writer.specs.Room.{of_loops, front_bytes}
 
 module _ (t : Trailer) (loops : List ℕ) (j : ℕ) where
-  -- from the numbers that are read
-  pub front_are :
-      (a b c : ℕ) → a ≡ get_or loops (per_loop t.version * j + 0) 0 → b ≡ get_or loops (per_loop t.version * j + 1) 0 → c ≡ get_or loops (per_loop t.version * j + 2) 0
-      → number_bytes 2 a ++ (number_bytes 2 b ++ number_bytes 4 c) ≡ front_bytes t loops j
-  front_are a b c p q r = rw (p, q, r) refl
-
   pub loop_without : t.version ≡ without_w → front_bytes t loops j ≡ loop_bytes t.version (loop_in (of_loops t.version loops) j)
   unfolding loop_bytes loop_fields loop_in
   loop_without h =

@@ -1,4 +1,5 @@
 -- The whole file put into the buffer, and the writer's answer by the verdicts that it came through.
+use Rattle.std.specs.Prelude.{Result, Ok, Err}
 use Prim.Native.Nat.{ℕ, ◌+◌, ◌*◌, ◌≤◌, ◌<◌}
 use native.Mathlib.Omega.{arith}
 use mathlib.Core.Path.{◌≡◌, refl, sym, ◌∙◌, ap, subst}
@@ -7,40 +8,23 @@ use lib.ListN.{length, drop, length-append}
 use borrow.Author.Tests.{lt-ltb, le-ltb}
 use Rattle.paper.specs.declared.Refusal.{Refusal}
 use Rattle.paper.specs.declared.Trailer.{Trailer}
-use Rattle.paper.specs.declared.Verdict.{Verdict}
-use Rattle.paper.specs.declared.Verdict.TheVariants as Verdicts
-use Rattle.paper.specs.declared.WriteAnswer.{WriteAnswer}
-use Rattle.paper.specs.declared.WriteAnswer.TheVariants as WriteAnswers
-use Rattle.paper.specs.Answers.{refuse}
+use Rattle.paper.specs.Answers.{Verdict, refuse}
 use Rattle.paper.specs.Files.{facts_at}
 use Rattle.paper.specs.Lists.{each}
 use Rattle.paper.specs.OneFact.{words}
 use Rattle.paper.specs.Verdicts.{shape_rules}
-use Rattle.paper.specs.Writing.{FileContent, per_loop, trailer_in, loop_in, rows_named, case_in, loop_bytes, trailer_bytes, fact_bytes, file_of, written_facts, write_verdict}
+use Rattle.paper.specs.Writing.{FileContent, trailer_in, loop_in, rows_named, case_in, loop_bytes, trailer_bytes, fact_bytes, file_of, written_facts, write_verdict}
 use Rattle.paper.proofs.RuleLaws.{accepted_on, refused_on}
 use Rattle.paper.proofs.Sections.{length_words}
-use Rattle.layout.specs.declared.Layout.TheVariants as Layouts
-use Rattle.lists.specs.Listed.{content, Listed, Facts}
+use Rattle.lists.specs.Listed.{content, Listed}
 use Rattle.lists.specs.Listings.{listing_of}
 use Rattle.lists.proofs.Wholes.{listing_refused, listing_on, listing_trailer, listing_whole}
 use Rattle.lists.proofs.Same.{hands_rules}
 use Rattle.puts.specs.Put.{Put}
 use Rattle.puts.proofs.Putting.{put_whole}
-use Rattle.writer.specs.Room.{of_loops, of_facts, NarrowLoops, FactsFit}
+use Rattle.writer.specs.Room.{of_loops, of_facts, FactsFit}
 use Rattle.writer.specs.Answered.{room_rule, listed_verdict, Written}
 use Rattle.writer.proofs.Sizes.{loops_length, facts_length, trailer_length}
-
--- rule 7 keeps a loop's ends below 65,536
-pub narrow : (t : Trailer) (loops heads rows : List ℕ) → Facts t loops heads rows → NarrowLoops t loops
-narrow t loops heads rows k =
-    record {
-      whole = k.loops_whole;
-      first = λ j l.
-          let w = k.fits j l in
-          let z : per_loop t.version * j + 0 ≡ per_loop t.version * j = omega arith in
-          rw z (omega (arith, w.0, w.1, k.nodes_high));
-      last = λ j l. let w = k.fits j l in omega (arith, w.1, k.nodes_high);
-    }
 
 module _ (t : Trailer) (nodes edges loops heads rows : List ℕ) (k : Listed (content t nodes edges loops heads rows) t) where
   pub facts_fit : FactsFit heads rows t.facts
@@ -89,38 +73,38 @@ module _ (t : Trailer) (nodes edges loops heads rows : List ℕ) (k : Listed (co
   size_of n e = ap (λ (m : ℕ). m + 6 * t.facts + 2 * length rows + 32) e ∙ size_is
 
 module _ (c : FileContent) (out : List ℕ) (size : ℕ) (e : size ≡ length (file_of c)) where
-  pub too_short : (x : Refusal) → length out < size → x ≡ refuse 20 0 → Written c out (room_rule c (length out)) (WriteAnswers.Refused x) out
+  pub too_short : (x : Refusal) → length out < size → x ≡ refuse 20 0 → Written c out (room_rule c (length out)) (Err x) out
   too_short x h q =
       let z : length out < length (file_of c) = omega arith in
-      rw (lt-ltb (length out) (length (file_of c)) z) (record { answer = ap WriteAnswers.Refused q; bytes = refl })
+      rw (lt-ltb (length out) (length (file_of c)) z) (record { answer = ap Err q; bytes = refl })
 
-  pub fitted : (to : ℕ) (after : List ℕ) → size ≤ length out → Put out 0 (file_of c) to after → Written c out (room_rule c (length out)) (WriteAnswers.Written size) after
+  pub fitted : (to : ℕ) (after : List ℕ) → size ≤ length out → Put out 0 (file_of c) to after → Written c out (room_rule c (length out)) (Ok size) after
   fitted to after h p =
       let z : length (file_of c) ≤ length out = omega arith in
       let w = put_whole (record { room = omega arith }) p in
       rw (le-ltb (length out) (length (file_of c)) z)
-      (record { answer = ap WriteAnswers.Written e; bytes = w.1 ∙ ap (λ (n : ℕ). file_of c ++ drop n out) w.0 })
+      (record { answer = ap Ok e; bytes = w.1 ∙ ap (λ (n : ℕ). file_of c ++ drop n out) w.0 })
 
 -- what the rules on the lists say: v
-module _ (c : FileContent) (out : List ℕ) (v : Verdict) (a : v ≡ shape_rules (case_in c) (written_facts c Verdicts.Accepted)) where
-  pub ruled_on : (r : WriteAnswer) (after : List ℕ) → v ≡ Verdicts.Accepted → Written c out (room_rule c (length out)) r after → Written c out (listed_verdict c (length out)) r after
+module _ (c : FileContent) (out : List ℕ) (v : Verdict) (a : v ≡ shape_rules (case_in c) (written_facts c (Ok tt))) where
+  pub ruled_on : (r : Result ℕ Refusal) (after : List ℕ) → v ≡ Ok tt → Written c out (room_rule c (length out)) r after → Written c out (listed_verdict c (length out)) r after
   ruled_on r after e w =
       subst (λ (u : Verdict). Written c out u r after) (sym (accepted_on (λ rest. shape_rules (case_in c) (written_facts c rest)) (hands_rules c) (room_rule c (length out)) v a e)) w
 
-  pub ruled_out : (x : Refusal) → v ≡ Verdicts.Refused x → Written c out (listed_verdict c (length out)) (WriteAnswers.Refused x) out
+  pub ruled_out : (x : Refusal) → v ≡ Err x → Written c out (listed_verdict c (length out)) (Err x) out
   ruled_out x e =
-      subst (λ (u : Verdict). Written c out u (WriteAnswers.Refused x) out)
+      subst (λ (u : Verdict). Written c out u (Err x) out)
       (sym (refused_on (λ rest. shape_rules (case_in c) (written_facts c rest)) (hands_rules c) (room_rule c (length out)) v a x e))
       (record { answer = refl; bytes = refl })
 
 -- what rules 2 to 4 say: the numbers t, or a refusal
 module _ (c : FileContent) where
-  pub listing_out : (out : List ℕ) (x : Refusal) → listing_of c ≡ Layouts.Refused x → Written c out (write_verdict c (length out)) (WriteAnswers.Refused x) out
+  pub listing_out : (out : List ℕ) (x : Refusal) → listing_of c ≡ Err x → Written c out (write_verdict c (length out)) (Err x) out
   unfolding write_verdict
   listing_out out x h =
-      subst (λ (u : Verdict). Written c out u (WriteAnswers.Refused x) out) (sym (listing_refused c x h (listed_verdict c (length out)))) (record { answer = refl; bytes = refl })
+      subst (λ (u : Verdict). Written c out u (Err x) out) (sym (listing_refused c x h (listed_verdict c (length out)))) (record { answer = refl; bytes = refl })
 
-  module _ (t : Trailer) (h : listing_of c ≡ Layouts.Read t) where
+  module _ (t : Trailer) (h : listing_of c ≡ Ok t) where
     same_content : content t c.nodes c.edges c.loops c.heads c.rows ≡ c
     unfolding trailer_in
     same_content = ap (λ (s : Trailer). content s c.nodes c.edges c.loops c.heads c.rows) (sym (listing_trailer c t h))
@@ -129,7 +113,7 @@ module _ (c : FileContent) where
     unfolding trailer_in
     listed_as = subst (λ (s : Trailer). Listed (content s c.nodes c.edges c.loops c.heads c.rows) s) (listing_trailer c t h) (listing_whole c t h)
 
-    pub listing_in : (out : List ℕ) (r : WriteAnswer) (after : List ℕ) →
+    pub listing_in : (out : List ℕ) (r : Result ℕ Refusal) (after : List ℕ) →
         Written (content t c.nodes c.edges c.loops c.heads c.rows) out (listed_verdict (content t c.nodes c.edges c.loops c.heads c.rows) (length out)) r after →
         Written c out (write_verdict c (length out)) r after
     unfolding write_verdict

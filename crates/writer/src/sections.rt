@@ -7,8 +7,9 @@ ghost use Rattle.paper.specs.Writing as Writing;
 ghost use Rattle.puts.specs.Put.{Put};
 ghost use Rattle.writer.specs.Room.{of_loops, of_facts, NarrowLoops, front_bytes, FactsFit, offset_bytes, mark_bytes};
 
-use crate::bytes::{put_byte, put_four, put_long, put_rows, put_word};
+use crate::bytes::{put_long, put_word, put_words};
 use paper::{Trailer, WITHOUT_W};
+use puts::word;
 
 // "loops (16-bit first, 16-bit last, 32-bit B)": loop j of the list, but for W.
 fn put_front(out: &mut [u8], at: usize, trailer: Trailer, loops: &[u32], j: u16) -> usize
@@ -45,18 +46,10 @@ pub fn put_loops(out: &mut [u8], at: usize, trailer: Trailer, loops: &[u32]) -> 
     ensures value { result ≡ at + loop_size trailer.version * trailer.loops }
 {
     let mut to = at;
-    let mut j: u16 = 0;
-    while j < trailer.loops {
+    for j in 0..trailer.loops {
         to = put_loop(out, to, trailer, loops, j);
-        j += 1;
     }
     to
-}
-
-fn wide(x: u16) -> usize
-    ensures { result ≡ x }
-{
-    x as usize
 }
 
 // "facts (16-bit loop number or 65,535 for the whole graph, 16-bit block, 16-bit l, then 16 bytes a row)": fact i, whose n rows come after r others.
@@ -68,10 +61,9 @@ fn put_fact(out: &mut [u8], at: usize, heads: &[u16], rows: &[u16], i: usize, r:
     ensures put { Put out.old at (Writing.fact_bytes (of_facts heads.now rows.now) i) result out.new }
     ensures value { result ≡ at + head_size + row_size * Writing.rows_named (of_facts heads.now rows.now) i }
 {
-    let block = put_word(out, at, heads[4 * i]);
-    let limit = put_word(out, block, heads[4 * i + 1]);
-    let body = put_word(out, limit, heads[4 * i + 2]);
-    put_rows(out, body, rows, r, wide(heads[4 * i + 3]))
+    let body = put_words(out, at, &heads[4 * i..4 * i + 3]);
+    let end = r + heads[4 * i + 3] as usize;
+    put_words(out, body, &rows[8 * r..8 * end])
 }
 
 pub fn put_facts(out: &mut [u8], at: usize, heads: &[u16], rows: &[u16], n: usize) -> usize
@@ -82,11 +74,9 @@ pub fn put_facts(out: &mut [u8], at: usize, heads: &[u16], rows: &[u16], n: usiz
 {
     let mut to = at;
     let mut r: usize = 0;
-    let mut i = 0;
-    while i < n {
+    for i in 0..n {
         to = put_fact(out, to, heads, rows, i, r);
-        r += wide(heads[4 * i + 3]);
-        i += 1;
+        r += heads[4 * i + 3] as usize;
     }
     to
 }
@@ -109,14 +99,17 @@ fn put_marks(out: &mut [u8], at: usize, trailer: Trailer) -> usize
     ensures put { Put out.old at (mark_bytes trailer) result out.new }
     ensures value { result ≡ at + 8 }
 {
-    let ways = put_byte(out, at, trailer.policy);
-    let sets = put_byte(out, ways, trailer.ways);
-    let version = put_byte(out, sets, trailer.sets);
-    let letters = put_byte(out, version, trailer.version);
-    let second = put_byte(out, letters, b'Q');
-    let third = put_byte(out, second, b'M');
-    let fourth = put_byte(out, third, b'B');
-    put_byte(out, fourth, b'T')
+    let marks = [
+        trailer.policy,
+        trailer.ways,
+        trailer.sets,
+        trailer.version,
+        b'Q',
+        b'M',
+        b'B',
+        b'T',
+    ];
+    word(out, at, &marks)
 }
 
 // "The last 32 bytes point back."
@@ -126,13 +119,7 @@ pub fn put_trailer(out: &mut [u8], at: usize, trailer: Trailer) -> usize
     ensures value { result ≡ at + trailer_size }
 {
     let numbers = put_offsets(out, at, trailer);
-    let marks = put_four(
-        out,
-        numbers,
-        trailer.nodes,
-        trailer.edges,
-        trailer.loops,
-        trailer.facts,
-    );
+    let counts = [trailer.nodes, trailer.edges, trailer.loops, trailer.facts];
+    let marks = put_words(out, numbers, &counts);
     put_marks(out, marks, trailer)
 }

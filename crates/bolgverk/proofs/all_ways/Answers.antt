@@ -2,14 +2,15 @@
 use Prim.Native.Nat.{ℕ}
 use mathlib.Core.Path.{◌≡◌, refl}
 use mathlib.Core.List.{List}
-use Rattle.paper.specs.declared.WaysAnswer.{WaysAnswer}
+use Rattle.std.specs.Prelude.{Result}
+use Rattle.paper.specs.declared.Refusal.{Refusal}
 use Rattle.paper.specs.AllWays.{all_ways}
 use Rattle.inclusion.proofs.WaysRuns.{ways_runs, ways_fall}
 use Rattle.bolgverk.specs.Promises.{WaysPromise}
 use Rattle.bolgverk.proofs.all_ways.Goals as goal
 
-ways-kept : (sets : ℕ) (blocks : List ℕ) (r : WaysAnswer) → r ≡ all_ways sets blocks → WaysPromise sets blocks r
-ways-kept sets blocks r e = rw e (record { told = refl; counts = refl; runs = ways_runs sets blocks; falls = ways_fall sets blocks })
+ways-kept : (sets : ℕ) (blocks : List ℕ) (r : Result (List ℕ) Refusal) → r ≡ all_ways sets blocks → WaysPromise sets blocks r
+ways-kept sets blocks r e = rw e (record { told = refl; runs = ways_runs sets blocks; falls = ways_fall sets blocks })
 
 pub returns : goal.returns
 returns c = ways-kept _ _ _ c.all_ways.ensures

@@ -1,29 +1,21 @@
--- Each turn writes one 0 more; what follows the list is left.
-use native.Mathlib.Omega.{arith}
-use mathlib.Core.Path.{refl}
-use Rattle.paper.proofs.TableLaws.{written_start, written_length, written_more, written_end}
+-- The part that the list takes is filled with 0; what follows it is left.
+use Prim.Native.Nat.{ℕ, zero, suc}
+use mathlib.Core.Path.{◌≡◌, refl, ◌∙◌, ap}
+use mathlib.Core.List.{List, ◌∷◌, ◌++◌}
+use lib.ListN.{length, replicate, take, drop}
+use lib.Seq.{length-take-le}
+use Rattle.paper.specs.Lists.{table}
+use Rattle.paper.specs.Bounds.{list_length}
+use Rattle.charge.specs.Tables.{zeros}
 use Rattle.charge.proofs.clear.Goals as goal
 
-pub loop-i-init : goal.loop-i-init
-loop-i-init c = written_start _ _ _ c.requires
-
-pub offset_bounds-numbers-i : goal.offset_bounds-numbers-i
-offset_bounds-numbers-i c = omega arith
-
-pub bounds-numbers-i : goal.bounds-numbers-i
-bounds-numbers-i c = omega (arith, written_length _ _ _ _ _ c.loop-i.invariant)
-
-pub overflow_add-i : goal.overflow_add-i
-overflow_add-i c = omega arith
-
-pub loop-i-smaller : goal.loop-i-smaller
-loop-i-smaller c = omega arith
-
-pub loop-i-preserved : goal.loop-i-preserved
-loop-i-preserved c = written_more _ _ _ _ _ _ c.loop-i.invariant (omega (arith, c.loop-i-test.true)) refl
-
-pub shape_of-numbers : goal.shape_of-numbers
-shape_of-numbers c = written_length _ _ _ _ _ c.loop-i.invariant
+all_zero : (n : ℕ) → replicate {A = ℕ} n 0 ≡ table (λ i. 0) n
+unfolding table
+all_zero zero = refl
+all_zero (suc n) = ap {B = List ℕ} (λ l. 0 ∷ l) (all_zero n)
 
 pub returns : goal.returns
-returns c = written_end _ _ _ _ _ c.loop-i.invariant (omega (arith, c.loop-i-test.false))
+returns c =
+    let n : length (take list_length c.args.numbers.now) ≡ list_length = length-take-le list_length c.args.numbers.now c.requires in
+    let e : c.fill.new.self ≡ zeros = c.fill.ensures.after (λ y q. q) ∙ ap (λ (k : ℕ). replicate {A = ℕ} k 0) n ∙ all_zero list_length in
+    ap (λ (l : List ℕ). l ++ drop list_length c.args.numbers.now) e

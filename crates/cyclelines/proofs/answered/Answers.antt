@@ -3,10 +3,10 @@ use Rattle.listing.proofs.ListingTexts.{printed_as}
 use Rattle.cyclelines.proofs.CycleTexts.{refused_as, told_as}
 use Rattle.cyclelines.proofs.answered.Goals as goal
 
-pub returns-in-Refused : goal.returns-in-Refused
-returns-in-Refused c =
-    printed_as (refused_as _ _ _ _ c.time.ensures _ c.in-Refused.is) c.refused.ensures
+pub returns-in-Err : goal.returns-in-Err
+returns-in-Err c =
+    printed_as (refused_as _ _ _ _ c.time.ensures _ c.in-Err.is) c.refused.ensures
 
-pub returns-in-Time : goal.returns-in-Time
-returns-in-Time c =
-    printed_as (told_as _ _ _ _ c.time.ensures _ c.in-Time.is) c.told.ensures
+pub returns-in-Ok : goal.returns-in-Ok
+returns-in-Ok c =
+    printed_as (told_as _ _ _ _ c.time.ensures _ c.in-Ok.is) c.told.ensures

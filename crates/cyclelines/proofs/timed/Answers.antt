@@ -5,4 +5,4 @@ use Rattle.cyclelines.proofs.timed.Goals as goal
 
 pub returns : goal.returns
 returns c =
-    printed_as (read_text c.args.input.now c.u32_at-penalty.ensures c.u16_at-interruptions.ensures c.requires.costs_len c.read_longs_at-from.ensures.longs_after c.read_longs_at-from.ensures.value) c.answered.ensures
+    printed_as (read_text c.args.input.now c.u32_at-penalty.ensures c.u16_at-interruptions.ensures c.requires.costs_len c.read_list_at-from.ensures.numbers_after c.read_list_at-from.ensures.value) c.answered.ensures

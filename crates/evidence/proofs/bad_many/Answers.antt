@@ -8,6 +8,6 @@ unfolding bad_many_at
 returns-then-fetches c =
     rw (← c.fetches.ensures, c.if-fetches.true, c.number_at.ensures, c.row_at.ensures.value) refl
 
-pub returns : goal.returns
+pub returns-else-fetches : goal.returns-else-fetches
 unfolding bad_many_at
-returns c = rw (← c.fetches.ensures, c.if-fetches.false) refl
+returns-else-fetches c = rw (← c.fetches.ensures, c.if-fetches.false) refl

@@ -1,36 +1,35 @@
--- `evidence_rules` answers by the first of the three loops that stops before its end: n is where the nodes were counted, r where the rows were looked at, s the edges, m the rows 8.
-use mathlib.Core.Path.{refl, ◌∙◌, ap}
-use Rattle.paper.specs.declared.Verdict.TheVariants.{Refused}
+-- The first of the three that is told of is what is refused; where none is, nothing is.
+use Rattle.std.specs.Prelude.{Err}
+use mathlib.Core.Path.{◌∙◌, ap}
+use Rattle.layout.proofs.FirstLaws.{told_first}
 use Rattle.evidence.proofs.Scopes.{rows_sound, edge_bad, evidence_16, evidence_edge, evidence_18, evidence_kept}
 use Rattle.evidence.proofs.evidence_rules.Goals as goal
 
-pub returns-then-row-n : goal.returns-then-row-n
-returns-then-row-n c =
-    c.at_node.ensures
-    ∙ evidence_16 _ _ _ c.requires.stands _ _ _ _ _ c.nodes_of-n.ensures.value c.bad_rows-row.ensures refl refl c.if-row-n.true
+pub at_node-requires-clause-j_bound : goal.at_node-requires-clause-j_bound
+at_node-requires-clause-j_bound c = (told_first _ _ _ c.in-Some.ensures).1
 
-pub bad_steps-edge-requires : goal.bad_steps-edge-requires
-bad_steps-edge-requires c =
-    record { laid = c.requires.laid; shaped = c.requires.shaped; stands = c.requires.stands; whole = c.requires.whole; sound_rows = rows_sound _ _ _ c.requires.stands 0 _ _ _ _ c.nodes_of-n.ensures.value c.bad_rows-row.ensures refl refl c.if-row-n.false }
+pub returns-in-Some : goal.returns-in-Some
+returns-in-Some c = c.at_node.ensures ∙ evidence_16 _ _ _ c.requires.stands _ _ c.in-Some.ensures
 
-pub step_number-number-requires : goal.step_number-number-requires
-step_number-number-requires c =
-    record { laid = c.requires.laid; stands = c.requires.stands; whole = c.requires.whole; bad_step = edge_bad _ _ _ c.requires.stands 0 _ _ _ _ c.nodes_of-n.ensures.value c.bad_rows-row.ensures c.bad_steps-edge.ensures refl c.if-row-n.false c.if-edge-trailer.true }
+pub bad_steps-requires-clause-sound_rows : goal.bad_steps-requires-clause-sound_rows
+bad_steps-requires-clause-sound_rows c = rows_sound _ _ _ c.requires.stands c.in_default.ensures
 
-pub returns-then-edge-trailer : goal.returns-then-edge-trailer
-returns-then-edge-trailer c =
-    ap Refused c.refuse_at.ensures
-    ∙ rw c.step_number-number.ensures
-    (evidence_edge _ _ _ c.requires.stands _ _ _ _ _ c.nodes_of-n.ensures.value c.bad_rows-row.ensures c.bad_steps-edge.ensures refl c.if-row-n.false
-    c.if-edge-trailer.true)
+pub step_number-number-requires-clause-bad_step : goal.step_number-number-requires-clause-bad_step
+step_number-number-requires-clause-bad_step c = edge_bad _ _ _ c.requires.stands _ c.in-Some-bad_steps.ensures
 
-pub returns-then-many-n : goal.returns-then-many-n
-returns-then-many-n c =
-    c.at_node-then-many-n.ensures
-    ∙ evidence_18 _ _ _ c.requires.stands _ _ _ _ _ c.nodes_of-n.ensures.value c.bad_rows-row.ensures c.bad_steps-edge.ensures c.bad_manys-many.ensures
-    c.if-row-n.false c.if-edge-trailer.false c.if-many-n.true
+pub returns-in-Some-bad_steps : goal.returns-in-Some-bad_steps
+returns-in-Some-bad_steps c =
+    ap Err c.refuse_at.ensures
+    ∙ rw c.step_number-number.ensures (evidence_edge _ _ _ c.requires.stands _ c.in_default.ensures _ c.in-Some-bad_steps.ensures)
+
+pub at_node-requires-in-Some-bad_manys-clause-j_bound : goal.at_node-requires-in-Some-bad_manys-clause-j_bound
+at_node-requires-in-Some-bad_manys-clause-j_bound c = (told_first _ _ _ c.in-Some-bad_manys.ensures).1
+
+pub returns-in-Some-bad_manys : goal.returns-in-Some-bad_manys
+returns-in-Some-bad_manys c =
+    c.at_node-in-Some-bad_manys.ensures
+    ∙ evidence_18 _ _ _ c.requires.stands _ c.in_default.ensures c.in_default-bad_steps.ensures _ c.in-Some-bad_manys.ensures
 
 pub returns : goal.returns
 returns c =
-    evidence_kept _ _ _ c.requires.stands _ _ _ _ _ c.nodes_of-n.ensures.value c.bad_rows-row.ensures c.bad_steps-edge.ensures c.bad_manys-many.ensures
-    c.if-row-n.false c.if-edge-trailer.false c.if-many-n.false
+    evidence_kept _ _ _ c.requires.stands _ c.in_default.ensures c.in_default-bad_steps.ensures c.in_default-bad_manys.ensures

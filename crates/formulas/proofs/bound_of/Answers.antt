@@ -1,25 +1,23 @@
--- Each policy's branch is its own lines of the table.
+-- Each policy's arm is its own lines of the table.
+use native.Mathlib.Omega.{arith}
 use mathlib.Core.Path.{refl}
-use borrow.Author.Tests.{eq-eqb, ne_eqb}
+use borrow.Author.Tests.{ne_eqb}
 use Rattle.paper.specs.Bounds.{bound_of}
 use Rattle.formulas.proofs.bound_of.Goals as goal
 
-pub returns-then-policy-eq-LRU : goal.returns-then-policy-eq-LRU
+pub returns-in-0 : goal.returns-in-0
 unfolding bound_of
-returns-then-policy-eq-LRU c = rw (bound_of, eq-eqb _ _ c.if-policy-eq-LRU.true) refl
+returns-in-0 c = rw (bound_of, c.in-0.is) refl
 
-pub returns-then-policy-eq-FIFO : goal.returns-then-policy-eq-FIFO
+pub returns-in-1 : goal.returns-in-1
 unfolding bound_of
-returns-then-policy-eq-FIFO c = rw (bound_of, ne_eqb _ _ c.if-policy-eq-LRU.false, eq-eqb _ _ c.if-policy-eq-FIFO.true) c.fifo_bound.ensures
+returns-in-1 c = rw (bound_of, c.in-1.is) c.fifo_bound.ensures
 
-pub returns-then-policy-eq-NMRU : goal.returns-then-policy-eq-NMRU
+pub returns-in-2 : goal.returns-in-2
 unfolding bound_of
-returns-then-policy-eq-NMRU c =
-    let d = c.before.before in
-    rw (bound_of, ne_eqb _ _ d.if-policy-eq-LRU.false, ne_eqb _ _ d.if-policy-eq-FIFO.false, eq-eqb _ _ c.if-policy-eq-NMRU.true) c.nmru_bound.ensures
+returns-in-2 c = rw (bound_of, c.in-2.is) c.nmru_bound.ensures
 
-pub returns : goal.returns
+pub returns-in_default : goal.returns-in_default
 unfolding bound_of
-returns c =
-    let d = c.before.before in
-    rw (bound_of, ne_eqb _ _ d.if-policy-eq-LRU.false, ne_eqb _ _ d.if-policy-eq-FIFO.false, ne_eqb _ _ c.if-policy-eq-NMRU.false) c.tree_bound.ensures
+returns-in_default c =
+    rw (bound_of, ne_eqb c.args.policy 0 (omega arith), ne_eqb c.args.policy 1 (omega arith), ne_eqb c.args.policy 2 (omega arith)) c.tree_bound.ensures

@@ -70,12 +70,10 @@ returns-then-l-lt2 c = rw (le-leb c.args.l _ (one_kept c.args.k c.args.l (omega 
 
 pub returns-then-two-k : goal.returns-then-two-k
 returns-then-two-k c =
-    let s = c.before.before in
-    let a = s.args in
+    let a = c.args in
     rw (le-leb a.l _ (limit-kept a.k (omega arith) a.l (omega (arith, c.if-l-lt2.false)) (omega (arith, c.if-two-k.true, two_is a.l (omega arith)))))
 
 pub returns-else-two-k : goal.returns-else-two-k
 returns-else-two-k c =
-    let s = c.before.before in
-    let a = s.args in
+    let a = c.args in
     rw (lt-leb a.l _ (limit-passed a.k (omega arith) a.l (omega (arith, c.if-l-lt2.false)) (omega (arith, c.if-two-k.false, two_is a.l (omega arith)))))

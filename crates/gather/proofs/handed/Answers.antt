@@ -5,11 +5,9 @@ use Rattle.gather.proofs.handed.Goals as goal
 pub returns-then-counts : goal.returns-then-counts
 unfolding handed
 returns-then-counts c =
-    let k = c.before.before in
-    λ e t s. rw (← k.counts.ensures e t s, c.if-counts.true, ← s.limit, ← k.put_slots-all.ensures) c.put.ensures
+    λ e t s. rw (← c.counts.ensures e t s, c.if-counts.true, ← s.limit, ← c.put_slots-all.ensures) c.put.ensures
 
 pub returns : goal.returns
 unfolding handed
 returns c =
-    let k = c.before in
-    λ e t s. rw (← k.counts.ensures e t s, c.if-counts.false, ← s.limit) k.put_slots-all.ensures
+    λ e t s. rw (← c.counts.ensures e t s, c.if-counts.false, ← s.limit) c.put_slots-all.ensures

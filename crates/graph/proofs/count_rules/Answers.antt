@@ -1,15 +1,17 @@
 -- The least node whose count is too large, or none, decides rule 10; where none is, all counts stand in the table.
+use mathlib.Core.Path.{refl}
 use Rattle.paper.specs.Files.{case_of}
 use Rattle.paper.specs.Verdicts.{count_rules}
-use Rattle.paper.proofs.RuleLaws.{never, passes_at, stops_at}
+use Rattle.paper.proofs.RuleLaws.{never}
+use Rattle.layout.proofs.FirstLaws.{passes_first, stops_first}
 use Rattle.graph.proofs.count_rules.Goals as goal
 
-pub returns-then-node-trailer : goal.returns-then-node-trailer
+pub returns-in-Some : goal.returns-in-Some
 unfolding count_rules case_of
-returns-then-node-trailer c =
-    record { value = search stops_at; counted = never _ }
+returns-in-Some c =
+    record { value = stops_first _ _ _ _ _ c.in-Some.ensures.value _ c.refuse.ensures; counted = never _ }
 
 pub returns : goal.returns
 unfolding count_rules case_of
 returns c =
-    record { value = search passes_at; counted = λ e. c.first_bad_count-node.ensures.counted c.if-node-trailer.false }
+    record { value = passes_first _ _ _ _ c.in_default.ensures.value _ refl; counted = λ e. c.in_default.ensures.counted refl }

@@ -1,59 +1,35 @@
--- Rule 8's least edge decides, then rule 9's, then the least dead node (`passes_at`, `stops_at`).
-use mathlib.Core.Path.{◌≡◌, refl}
-use borrow.Author.Rules.{rules}
-use Rattle.paper.specs.declared.Verdict.{Verdict}
-use Rattle.paper.specs.declared.Verdict.TheVariants.{Accepted}
-use Rattle.paper.specs.Rules.{rule_at}
-use Rattle.paper.specs.Graphs.{dead}
+-- Rule 8's least edge decides, then rule 9's, then the least dead node.
+use mathlib.Core.Path.{refl}
 use Rattle.paper.specs.Files.{case_of}
 use Rattle.paper.specs.Verdicts.{path_rules}
-use Rattle.paper.proofs.RuleLaws.{keeps, passes_at, stops_at}
+use Rattle.layout.proofs.FirstLaws.{kept_first, passes_first, stops_first}
 use Rattle.graph.specs.Marks.{edge_rule}
 use Rattle.graph.proofs.path_rules.Goals as goal
 
-pub returns-then-forward-trailer : goal.returns-then-forward-trailer
+pub returns-in-Some : goal.returns-in-Some
 unfolding path_rules edge_rule case_of
-returns-then-forward-trailer c = search (passes_at, stops_at)
+returns-in-Some c = stops_first _ _ _ _ _ c.in-Some.ensures _ c.refuse.ensures
 
-pub edge_rule-back-requires : goal.edge_rule-back-requires
-edge_rule-back-requires c =
-    record { laid = search rules; shaped = search rules; rule_bound = search rules; most_nodes_in_bounds = search rules }
-
-pub returns-then-back-trailer : goal.returns-then-back-trailer
+pub returns-in-Some-edge_rule : goal.returns-in-Some-edge_rule
 unfolding path_rules edge_rule case_of
-returns-then-back-trailer c = search (passes_at, stops_at)
+returns-in-Some-edge_rule c =
+    passes_first _ _ _ _ c.in_default.ensures _ (stops_first _ _ _ _ _ c.in-Some-edge_rule.ensures _ c.refuse-in-Some-edge_rule.ensures)
 
-pub first_dead-node-requires : goal.first_dead-node-requires
+pub first_dead-requires-clause-edges_value : goal.first_dead-requires-clause-edges_value
 unfolding edge_rule case_of
-first_dead-node-requires c =
-    let entries = keeps _ _ _ c.edge_rule-forward.ensures c.if-forward-trailer.false in
-    let returns-then-forward-trailer = keeps _ _ _ c.edge_rule-back.ensures c.if-back-trailer.false in
-    record { laid = search rules; shaped = search rules; edges_value = entries; edges_value_2 = returns-then-forward-trailer; most_nodes_in_bounds = search rules }
+first_dead-requires-clause-edges_value c = kept_first _ _ c.in_default.ensures
 
--- where no edge breaks 8 or 9, rule 26 is left
-last-rule : (c : goal.After-refuse-then-node-trailer) →
-    let a = c.args in
-    let e = case_of a.file.now a.trailer in
-    (v : Verdict) → v ≡ rule_at 26 (dead e) e.nodes Accepted → v ≡ path_rules e Accepted
+pub first_dead-requires-clause-edges_value_2 : goal.first_dead-requires-clause-edges_value_2
+unfolding edge_rule case_of
+first_dead-requires-clause-edges_value_2 c = kept_first _ _ c.in_default-edge_rule.ensures
+
+pub returns-in-Some-first_dead : goal.returns-in-Some-first_dead
 unfolding path_rules edge_rule case_of
-last-rule c v h =
-    passes_at _ _ _ _ _ c.edge_rule-forward.ensures _ c.if-forward-trailer.false (passes_at _ _ _ _ _ c.edge_rule-back.ensures _ c.if-back-trailer.false h)
-
--- where no edge breaks 8 or 9, rule 26 is left
-last-rule_2 : (c : goal.Else-node-trailer) →
-    let a = c.args in
-    let e = case_of a.file.now a.trailer in
-    (v : Verdict) → v ≡ rule_at 26 (dead e) e.nodes Accepted → v ≡ path_rules e Accepted
-unfolding path_rules edge_rule case_of
-last-rule_2 c v h =
-    passes_at _ _ _ _ _ c.edge_rule-forward.ensures _ c.if-forward-trailer.false (passes_at _ _ _ _ _ c.edge_rule-back.ensures _ c.if-back-trailer.false h)
-
-pub returns-then-node-trailer : goal.returns-then-node-trailer
-unfolding case_of
-returns-then-node-trailer c =
-    last-rule c _ (stops_at _ _ _ _ _ c.first_dead-node.ensures _ c.if-node-trailer.true c.refuse-then-node-trailer.ensures)
+returns-in-Some-first_dead c =
+    passes_first _ _ _ _ c.in_default.ensures _
+    (passes_first _ _ _ _ c.in_default-edge_rule.ensures _ (stops_first _ _ _ _ _ c.in-Some-first_dead.ensures _ c.refuse-in-Some-first_dead.ensures))
 
 pub returns : goal.returns
-unfolding case_of
+unfolding path_rules edge_rule case_of
 returns c =
-    last-rule_2 c _ (passes_at _ _ _ _ _ c.first_dead-node.ensures _ c.if-node-trailer.false refl)
+    passes_first _ _ _ _ c.in_default.ensures _ (passes_first _ _ _ _ c.in_default-edge_rule.ensures _ (passes_first _ _ _ _ c.in_default-first_dead.ensures _ refl))

@@ -4,26 +4,21 @@ use Rattle.std.specs.Prelude.{replicate}
 use borrow.Author.Rules.{rules}
 use Rattle.layout.proofs.Laws.{read_laid}
 use Rattle.bolgverk.proofs.Determined.{check_answer}
-use Rattle.listing.proofs.ListingTexts.{printed_as, refused_text, layout_text, accepted_text}
+use Rattle.listing.proofs.ListingTexts.{printed_as, layout_text, accepted_text}
 use Rattle.listing.proofs.checked.Goals as goal
 
 pub accepted-requires : goal.accepted-requires
 accepted-requires c =
-    let d = read_laid _ _ (sym c.layout_of.ensures ∙ c.in-Read.is) in
+    let d = read_laid _ _ (sym c.layout_of.ensures ∙ c.in-Ok-layout_of.is) in
     record { list_length_in_bounds = search rules; sets_bound = d.sets_high; facts_bound = d.facts_high }
 
-pub returns-in-Refused : goal.returns-in-Refused
-returns-in-Refused c =
-    let p = c.check.ensures in
-    printed_as (refused_text _ _ _ _ (check_answer _ _ _ _ _ p) c.in-Refused.is) c.refused.ensures
+pub returns-in-Err-layout_of : goal.returns-in-Err-layout_of
+returns-in-Err-layout_of c =
+    printed_as (layout_text _ _ _ (sym c.layout_of.ensures ∙ c.in-Err-layout_of.is)) c.refused-in-Err-layout_of.ensures
 
-pub returns-in-Refused-layout_of : goal.returns-in-Refused-layout_of
-returns-in-Refused-layout_of c =
-    printed_as (layout_text _ _ _ (sym c.layout_of.ensures ∙ c.in-Refused-layout_of.is)) c.refused-in-Refused-layout_of.ensures
-
-pub returns-in-Read : goal.returns-in-Read
-returns-in-Read c =
+pub returns-in-Ok-layout_of : goal.returns-in-Ok-layout_of
+returns-in-Ok-layout_of c =
     let p = c.check.ensures in
     printed_as
-    (accepted_text _ _ (replicate 321 0) c.check.new.numbers _ _ (sym c.layout_of.ensures ∙ c.in-Read.is) (check_answer _ _ _ _ _ p) p.numbers c.in-Accepted.is)
+    (accepted_text _ _ (replicate 321 0) c.check.new.numbers _ _ (sym c.layout_of.ensures ∙ c.in-Ok-layout_of.is) (check_answer _ _ _ _ _ p) p.numbers c.in-Ok.is)
     c.accepted.ensures

@@ -1,25 +1,18 @@
--- `lists::rules_on`: the shape decides, or else the facts do; s is the start.
-use Rattle.paper.proofs.RuleLaws.{never}
-use Rattle.lists.specs.Listed.{content}
+-- The shape decides, or else the facts do.
+use borrow.Author.Rules.{rules}
 use Rattle.lists.proofs.Same.{shape_refused, facts_decide, judged}
 use Rattle.lists.proofs.rules_on.Goals as goal
 
-pub returns-in-Refused : goal.returns-in-Refused
-returns-in-Refused c =
-    let a = c.args in
-    record {
-      value = shape_refused (content a.trailer a.nodes.now a.edges.now a.loops.now a.heads.now a.rows.now) _ c.requires _ c.shape_rules-shape.ensures _
-          c.in-Refused.is;
-      facts = λ e. never _ e;
-    }
+pub returns-in_err-shape_rules_on-clause-value : goal.returns-in_err-shape_rules_on-clause-value
+returns-in_err-shape_rules_on-clause-value c =
+    search (rules, shape_refused _ _ c.requires _ c.shape_rules_on.ensures _ c.in_err-shape_rules_on.was)
 
-pub fact_rules-requires : goal.fact_rules-requires
-fact_rules-requires c =
-    let a = c.args in
-    judged (content a.trailer a.nodes.now a.edges.now a.loops.now a.heads.now a.rows.now) _ c.requires _ c.shape_rules-shape.ensures c.in_default.is
+pub invariant_of-lists : goal.invariant_of-lists
+invariant_of-lists c = record { facts = judged _ _ c.requires _ c.shape_rules_on.ensures c.in_ok-shape_rules_on.was }
 
 pub returns : goal.returns
 returns c =
-    let a = c.args in
-    let d = content a.trailer a.nodes.now a.edges.now a.loops.now a.heads.now a.rows.now in
-    record { value = facts_decide d _ c.requires _ c.shape_rules-shape.ensures c.in_default.is _ c.fact_rules.ensures; facts = λ e. judged d _ c.requires _ c.shape_rules-shape.ensures c.in_default.is }
+    record {
+      value = facts_decide _ _ c.requires _ c.shape_rules_on.ensures c.in_ok-shape_rules_on.was _ c.fact_rules.ensures;
+      facts = λ e. judged _ _ c.requires _ c.shape_rules_on.ensures c.in_ok-shape_rules_on.was;
+    }

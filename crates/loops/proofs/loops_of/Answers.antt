@@ -1,5 +1,4 @@
 -- What is read so far (`Read`): each record is the loop that the file has there.
-use native.Mathlib.Omega.{arith}
 use mathlib.Core.Path.{refl}
 use Rattle.loops.proofs.Handing.{read_start, read_more, read_end}
 use Rattle.loops.proofs.loops_of.Goals as goal
@@ -11,12 +10,6 @@ loop-j-preserved c =
 
 pub loop-j-init : goal.loop-j-init
 loop-j-init c = read_start _ _ _ refl
-
-pub bounds-loops-j : goal.bounds-loops-j
-bounds-loops-j c = let laid = c.requires in omega (arith, laid.loops_high)
-
-pub loop-j-smaller : goal.loop-j-smaller
-loop-j-smaller c = omega arith
 
 pub returns : goal.returns
 returns c = read_end _ _ _ _ c.loop-j.invariant c.loop-j-test.false

@@ -1,10 +1,6 @@
 -- What is read so far (`Read`): each record is the loop that the file has there.
-use Prim.Native.Nat.{◌-◌}
 use Rattle.loops.proofs.Handing.{Read}
 use Rattle.loops.proofs.loops_of.Given as goal
 
 abbrev pub invariant-loop-j : goal.invariant-loop-j
 invariant-loop-j l = Read l.file l.trailer l.j l.loops
-
-abbrev pub decreases-loop-j : goal.decreases-loop-j
-decreases-loop-j l = l.trailer.loops - l.j

@@ -5,6 +5,6 @@ use Rattle.paper.specs.Machines.{marked}
 use Rattle.paper.specs.NextBits.{next_bits}
 use Rattle.next.proofs.next_bits.Goals as goal
 
-pub returns : goal.returns
+pub invariant_of-result : goal.invariant_of-result
 unfolding next_bits table marked
-returns c = refl
+invariant_of-result c = record { made = refl }

@@ -1,39 +1,24 @@
 -- `onepass::all_ways`: the refusals are asked for in the request's order, and each answer is the one of the definition.
+use Rattle.std.specs.Prelude.{Ok}
 use mathlib.Core.Path.{◌≡◌, sym, ◌∙◌, ap}
-use mathlib.Core.Bool.{true}
-use mathlib.Core.List.{List}
-use Prim.Native.Nat.{ℕ}
-use Rattle.paper.specs.declared.Verdict.TheVariants.{Accepted}
-use Rattle.paper.specs.declared.WaysAnswer.{WaysAnswer}
-use Rattle.paper.specs.Machines.{set_count}
+use mathlib.Core.Bool.{Bool, true}
 use Rattle.onepass.proofs.Answers.{ways_3, ways_21, ways_counted, pass_ready}
 use Rattle.onepass.proofs.all_ways.Goals as goal
 
-abbrev counted : List ℕ → WaysAnswer
-counted l = record { counts = l; verdict = Accepted }
+-- past the first refusal
+passed : {b t : Bool} → b ≡ t → b ≡ true → t ≡ true
+passed e q = sym e ∙ q
 
 pub returns-then-not-is_set_count : goal.returns-then-not-is_set_count
-returns-then-not-is_set_count c = c.refused.ensures ∙ ways_3 _ _ (sym c.is_set_count.ensures ∙ c.if-not-is_set_count.true)
-
--- past the first refusal
-set-count : (c : goal.After-refused-then-at-blocks) → set_count c.args.sets ≡ true
-set-count c = sym c.is_set_count.ensures ∙ c.if-not-is_set_count.false
-
--- past the first refusal
-set-count_2 : (c : goal.Else-at-blocks) → set_count c.args.sets ≡ true
-set-count_2 c = sym c.is_set_count.ensures ∙ c.if-not-is_set_count.false
-
--- past the first refusal
-set-count_3 : (c : goal.After-counts) → set_count c.args.sets ≡ true
-set-count_3 c = sym c.is_set_count.ensures ∙ c.if-not-is_set_count.false
+returns-then-not-is_set_count c = ways_3 _ _ _ c.refuse.ensures (sym c.is_set_count.ensures ∙ c.if-not-is_set_count.true)
 
 pub returns-then-at-blocks : goal.returns-then-at-blocks
 returns-then-at-blocks c =
-    c.refused-then-at-blocks.ensures ∙ ways_21 _ _ (set-count c) _ c.bad_access-at.ensures c.if-at-blocks.true
+    ways_21 _ _ (passed c.is_set_count.ensures c.if-not-is_set_count.false) _ c.bad_access-at.ensures _ c.refuse-then-at-blocks.ensures c.if-at-blocks.true
 
 pub counts-requires : goal.counts-requires
-counts-requires c = pass_ready _ _ (set-count_2 c) _ c.bad_access-at.ensures c.if-at-blocks.false
+counts-requires c = pass_ready _ _ (passed c.is_set_count.ensures c.if-not-is_set_count.false) _ c.bad_access-at.ensures c.if-at-blocks.false
 
 pub returns : goal.returns
 returns c =
-    ap counted c.counts.ensures ∙ ways_counted _ _ (set-count_3 c) _ c.bad_access-at.ensures c.if-at-blocks.false
+    ap Ok c.counts.ensures ∙ ways_counted _ _ (passed c.is_set_count.ensures c.if-not-is_set_count.false) _ c.bad_access-at.ensures c.if-at-blocks.false

@@ -1,6 +1,5 @@
 -- `patterns::after`: the tree's bits, or the entry of the next-bits table, which holds what the rule says.
 use native.Mathlib.Omega.{arith}
-use Rattle.patterns.proofs.PatternTexts.{at_entry}
 use Rattle.patterns.proofs.ShownLaws.{shown_tree, after_tree, after_nmru}
 use Rattle.patterns.proofs.after.Goals as goal
 
@@ -12,8 +11,11 @@ turned-requires c =
 pub returns-then-tree : goal.returns-then-tree
 returns-then-tree c = let a = c.args in after_tree a.tree a.k a.p _ a.j c.if-tree.true c.turned.ensures
 
+pub overflow_cast-p : goal.overflow_cast-p
+overflow_cast-p c = let s = c.requires.shown in omega (arith, s.below, s.shape.byte)
+
+pub after-requires : goal.after-requires
+after-requires c = let s = c.requires.shown in omega (arith, c.requires.j_lt_k, s.shape.few)
+
 pub returns : goal.returns
-returns c =
-    let s = c.requires.shown in
-    let a = c.args in
-    after_nmru a.tree a.k a.p _ a.j c.if-tree.false (at_entry c.requires.table_value (omega (arith, s.below, s.shape.byte)) (omega (arith, c.requires.j_lt_k, s.shape.few)))
+returns c = let a = c.args in after_nmru a.tree a.k a.p _ a.j c.if-tree.false c.after.ensures

@@ -16,7 +16,7 @@ miss-after_miss-requires c =
 pub next-after_next-requires : goal.next-after_next-requires
 unfolding pattern_line
 next-after_next-requires c =
-    record { w_bound = c.requires.w_bound; shown = c.requires.shown; table_value = c.requires.table_value; fits = first_fits _ _ (then_fits _ c.miss-after_miss.ensures (then_fits _ c.binary-after_pattern.ensures c.requires.fits)) }
+    record { w_bound = c.requires.w_bound; shown = c.requires.shown; fits = first_fits _ _ (then_fits _ c.miss-after_miss.ensures (then_fits _ c.binary-after_pattern.ensures c.requires.fits)) }
 
 pub word-requires : goal.word-requires
 unfolding pattern_line

@@ -8,7 +8,7 @@ use Rattle.patterns.proofs.patterns.Goals as goal
 
 pub lines-requires : goal.lines-requires
 lines-requires c =
-    record { w_bound = omega arith; shape = nmru_shape; table_value = c.next_bits-table.ensures; fits = record { room = omega (arith, patterns_length, c.told-out) } }
+    record { w_bound = omega arith; shape = nmru_shape; fits = record { room = omega (arith, patterns_length, c.told-out) } }
 
 pub returns : goal.returns
 returns c =

@@ -19,17 +19,17 @@ fits e = record { room = omega (arith, trees_length) }
 pub lines-after_two-requires : goal.lines-after_two-requires
 unfolding tree_table offered
 lines-after_two-requires c =
-    record { w_bound = omega arith; shape = tree_shape 2 refl; table_value = c.next_bits-table.ensures; fits = first_fits _ _ (fits c.told-out) }
+    record { w_bound = omega arith; shape = tree_shape 2 refl; fits = first_fits _ _ (fits c.told-out) }
 
 pub lines-after_four-requires : goal.lines-after_four-requires
 unfolding tree_table offered
 lines-after_four-requires c =
-    record { w_bound = omega arith; shape = tree_shape 4 refl; table_value = c.next_bits-table.ensures; fits = first_fits _ _ (then_fits _ c.lines-after_two.ensures (fits c.told-out)) }
+    record { w_bound = omega arith; shape = tree_shape 4 refl; fits = first_fits _ _ (then_fits _ c.lines-after_two.ensures (fits c.told-out)) }
 
 pub lines-requires : goal.lines-requires
 unfolding tree_table offered
 lines-requires c =
-    record { w_bound = omega arith; shape = tree_shape 8 refl; table_value = c.next_bits-table.ensures; fits = then_fits _ c.lines-after_four.ensures (then_fits _ c.lines-after_two.ensures (fits c.told-out)) }
+    record { w_bound = omega arith; shape = tree_shape 8 refl; fits = then_fits _ c.lines-after_four.ensures (then_fits _ c.lines-after_two.ensures (fits c.told-out)) }
 
 pub returns : goal.returns
 unfolding tree_table

@@ -16,7 +16,7 @@ overflow_shl-j c = omega (arith, c.requires.j_lt_k, few_ways _ c.requires.k_valu
 
 pub turn-requires : goal.turn-requires
 turn-requires c =
-    record { k_value = c.requires.k_value; bits_bound = c.requires.p_bound; bit = bit_of _ c.requires.k_value _ c.requires.j_lt_k; ones_value = c.ones-ones.ensures; zeros_value = c.zeros-zeros.ensures }
+    record { k_value = c.requires.k_value; bits_bound = c.requires.p_bound; bit = bit_of _ c.requires.k_value _ c.requires.j_lt_k }
 
 pub returns : goal.returns
 returns c =

@@ -7,7 +7,4 @@ use Rattle.salvaging.proofs.lines.Given as goal
 
 abbrev pub invariant-loop-i : goal.invariant-loop-i
 invariant-loop-i l =
-    (Left l.initial.out 0 (lines_from (λ k. get_or l.numbers k 0) 0 l.n) l.out l.to (lines_from (λ k. get_or l.numbers k 0) l.i (l.n - l.i))) × (l.to ≤ 218 * l.i) × (l.i ≤ l.n)
-
-abbrev pub decreases-loop-i : goal.decreases-loop-i
-decreases-loop-i l = l.n - l.i
+    (Left l.initial.out 0 (lines_from (λ k. get_or l.numbers k 0) 0 l.n) l.out l.to (lines_from (λ k. get_or l.numbers k 0) l.i (l.n - l.i))) × (l.to ≤ 218 * l.i)

@@ -7,15 +7,15 @@ use Rattle.salvaging.proofs.salvaged.Goals as goal
 
 pub lines-requires : goal.lines-requires
 lines-requires c =
-    let few = told_few _ c.salvage.ensures c.told-out refl _ c.in-Salvaged.is in
+    let few = told_few _ c.salvage.ensures c.told-out refl _ c.in-Ok.is in
     record { n_in_bounds = search (rules, few); n_in_bounds_2 = omega (arith, c.told-text) }
 
-pub returns-in-Refused : goal.returns-in-Refused
-returns-in-Refused c =
-    told_refused _ c.salvage.ensures c.told-out refl _ _ c.in-Refused.is c.refused.ensures.rest_value c.refused.ensures.printed
+pub returns-in-Err : goal.returns-in-Err
+returns-in-Err c =
+    told_refused _ c.salvage.ensures c.told-out refl _ _ c.in-Err.is c.refused.ensures.rest_value c.refused.ensures.printed
 
-pub returns-in-Salvaged : goal.returns-in-Salvaged
-returns-in-Salvaged c =
-    let few = told_few _ c.salvage.ensures c.told-out refl _ c.in-Salvaged.is in
-    told_salvaged _ c.salvage.ensures c.told-out refl _ _ c.in-Salvaged.is refl c.lines.ensures.put
+pub returns-in-Ok : goal.returns-in-Ok
+returns-in-Ok c =
+    let few = told_few _ c.salvage.ensures c.told-out refl _ c.in-Ok.is in
+    told_salvaged _ c.salvage.ensures c.told-out refl _ _ c.in-Ok.is refl c.lines.ensures.put
     (omega (arith, c.lines.ensures.upper_bound, c.told-text))

@@ -8,10 +8,6 @@ pub returns-then-costs-trailer : goal.returns-then-costs-trailer
 unfolding case_of
 returns-then-costs-trailer c = wrong_length _ _ _ _ (omega (arith, c.if-costs-trailer.true)) _ c.refuse.ensures
 
-pub time_of-time-requires : goal.time_of-time-requires
-time_of-time-requires c =
-    record { laid = c.requires.laid; shaped = c.requires.shaped; nodes_in_bounds = omega (arith, c.if-costs-trailer.false); most_nodes_in_bounds = c.requires.most_nodes_in_bounds }
-
 pub returns-then-time-ge-TOO_LARGE : goal.returns-then-time-ge-TOO_LARGE
 unfolding case_of
 returns-then-time-ge-TOO_LARGE c =

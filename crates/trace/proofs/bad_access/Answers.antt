@@ -1,6 +1,7 @@
 -- `trace::bad_access`: the first access with block none stops the loop; before it none has it.
 use native.Mathlib.Omega.{arith}
-use mathlib.Core.Path.{refl}
+use mathlib.Core.Path.{◌≡◌, refl, ◌∙◌}
+use lib.ListN.{length}
 use borrow.Author.Tests.{eq-eqb, ne_eqb}
 use Rattle.paper.specs.Traces.{bad_access}
 use Rattle.paper.proofs.Least.{passed_more, least_found, least_end}
@@ -23,4 +24,7 @@ loop-i-preserved c =
     passed_more _ _ v.i _ v.invariant (omega arith) refl (ne_eqb _ _ c.if-blocks-i.false)
 
 pub returns : goal.returns
-returns c = least_end _ _ _ c.loop-i.invariant (omega arith)
+returns c =
+    let v = c.loop-i in
+    let e : length c.args.blocks.now ≡ v.i = omega (arith, c.passed_eights-i.ensures.within) in
+    e ∙ least_end _ _ v.i v.invariant (omega arith)

@@ -10,4 +10,4 @@ returns-then-sets-gt255 c =
 
 pub returns-else-sets-gt255 : goal.returns-else-sets-gt255
 returns-else-sets-gt255 c =
-    printed_as (read_text c.args.input.now _ (omega (arith, c.if-sets-gt255.false, c.u16_at-sets.ensures)) c.read_blocks_at.ensures.blocks_after c.requires) c.answered.ensures
+    printed_as (read_text c.args.input.now _ (omega (arith, c.if-sets-gt255.false, c.u16_at-sets.ensures)) c.read_list_at.ensures.numbers_after c.requires) c.answered.ensures

@@ -2,30 +2,14 @@
 use native.Mathlib.Omega.{arith}
 use Rattle.puts.proofs.Putting.{put_length, put_then}
 use Rattle.writer.proofs.Words.{put_as}
-use Rattle.writer.proofs.Written.{narrow, facts_fit, file_parts}
+use Rattle.writer.proofs.Written.{facts_fit, file_parts}
 use Rattle.writer.proofs.put_file.Goals as goal
-
-pub put_loops-after_loops-requires : goal.put_loops-after_loops-requires
-put_loops-after_loops-requires c =
-    record {
-      loops_in_bounds = omega (
-        arith,
-        c.put_words-after_edges.ensures.value,
-        put_length c.put_words-after_edges.ensures.put,
-        c.put_words-after_nodes.ensures.value,
-        put_length c.put_words-after_nodes.ensures.put,
-        c.requires.listed.nodes,
-        c.requires.listed.edges,
-        c.requires.trailer_size_in_bounds,
-      );
-      narrow_loops = narrow _ _ _ _ c.requires.facts;
-    }
 
 pub put_facts-after_facts-requires : goal.put_facts-after_facts-requires
 put_facts-after_facts-requires c =
     let a = c.args in
     record {
-      facts_fit = facts_fit a.trailer a.nodes.now a.edges.now a.loops.now a.heads.now a.rows.now c.requires.listed;
+      facts_fit = facts_fit a.trailer a.lists.now.nodes.now a.lists.now.edges.now a.lists.now.loops.now a.lists.now.heads.now a.lists.now.rows.now c.requires.listed;
       rows_in_bounds = omega (
         arith,
         c.put_loops-after_loops.ensures.value,
@@ -40,27 +24,10 @@ put_facts-after_facts-requires c =
       );
     }
 
-pub put_trailer-requires : goal.put_trailer-requires
-put_trailer-requires c =
-    omega (
-      arith,
-      c.put_facts-after_facts.ensures.value,
-      put_length c.put_facts-after_facts.ensures.put,
-      c.put_loops-after_loops.ensures.value,
-      put_length c.put_loops-after_loops.ensures.put,
-      c.put_words-after_edges.ensures.value,
-      put_length c.put_words-after_edges.ensures.put,
-      c.put_words-after_nodes.ensures.value,
-      put_length c.put_words-after_nodes.ensures.put,
-      c.requires.listed.nodes,
-      c.requires.listed.edges,
-      c.requires.trailer_size_in_bounds,
-    )
-
 pub returns : goal.returns
 returns c =
     let a = c.args in
-    put_as (file_parts a.trailer a.nodes.now a.edges.now a.loops.now a.heads.now a.rows.now c.requires.listed)
+    put_as (file_parts a.trailer a.lists.now.nodes.now a.lists.now.edges.now a.lists.now.loops.now a.lists.now.heads.now a.lists.now.rows.now c.requires.listed)
     (put_then c.put_words-after_nodes.ensures.put
     (put_then c.put_words-after_edges.ensures.put
     (put_then c.put_loops-after_loops.ensures.put (put_then c.put_facts-after_facts.ensures.put c.put_trailer.ensures.put))))

@@ -19,17 +19,13 @@ early g =
 pub returns-then-out-size : goal.returns-then-out-size
 returns-then-out-size c =
     let a = c.args in
-    too_short _ _ _ (size_of a.trailer a.nodes.now a.edges.now a.loops.now a.heads.now a.rows.now c.requires.listed _ c.facts_at.ensures) _
+    too_short _ _ _ (size_of a.trailer a.lists.now.nodes.now a.lists.now.edges.now a.lists.now.loops.now a.lists.now.heads.now a.lists.now.rows.now c.requires.listed _ c.facts_at.ensures) _
     (omega (arith, c.if-out-size.true)) c.refuse.ensures
-
-pub put_file-requires : goal.put_file-requires
-put_file-requires c =
-    record { listed = c.requires.listed; facts = c.requires.facts; trailer_size_in_bounds = omega (arith, c.facts_at.ensures, c.if-out-size.false) }
 
 pub returns : goal.returns
 returns c =
     let a = c.args in
-    fitted _ _ _ (size_of a.trailer a.nodes.now a.edges.now a.loops.now a.heads.now a.rows.now c.requires.listed _ c.facts_at.ensures) _ _
+    fitted _ _ _ (size_of a.trailer a.lists.now.nodes.now a.lists.now.edges.now a.lists.now.loops.now a.lists.now.heads.now a.lists.now.rows.now c.requires.listed _ c.facts_at.ensures) _ _
     (omega (arith, c.if-out-size.false)) c.put_file.ensures
 
 pub overflow_add-size : goal.overflow_add-size

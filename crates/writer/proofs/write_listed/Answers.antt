@@ -1,14 +1,19 @@
--- `writer::write_listed`: the rules decide, or else the room does; m is where the rules were asked.
+-- `writer::write_listed`: the rules decide, or else the room does.
+use Rattle.std.specs.Prelude.{Err}
+use borrow.Author.Rules.{rules}
+use mathlib.Core.Path.{◌≡◌}
 use Rattle.writer.proofs.Written.{ruled_on, ruled_out}
 use Rattle.writer.proofs.write_listed.Goals as goal
 
 pub write_fitting-requires : goal.write_fitting-requires
 write_fitting-requires c =
-    record { listed = c.requires; facts = c.rules_on-verdict.ensures.facts c.in-Accepted.is }
+    record { listed = c.requires; facts = c.rules_on.ensures.facts c.in_ok-rules_on.was }
 
-pub returns-in-Accepted : goal.returns-in-Accepted
-returns-in-Accepted c =
-    ruled_on _ _ _ c.rules_on-verdict.ensures.value _ _ c.in-Accepted.is c.write_fitting.ensures
+pub returns : goal.returns
+returns c =
+    ruled_on _ _ _ c.rules_on.ensures.value _ _ c.in_ok-rules_on.was c.write_fitting.ensures
 
-pub returns-in-Refused : goal.returns-in-Refused
-returns-in-Refused c = ruled_out _ _ _ c.rules_on-verdict.ensures.value _ c.in-Refused.is
+pub returns-in_err-rules_on : goal.returns-in_err-rules_on
+returns-in_err-rules_on c =
+    let e : c.from_residual.result ≡ Err c.in_err-rules_on.field-0.0 = search rules in
+    rw e (ruled_out _ _ _ c.rules_on.ensures.value _ c.in_err-rules_on.was)

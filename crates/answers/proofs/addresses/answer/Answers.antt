@@ -8,4 +8,4 @@ use Rattle.answers.proofs.addresses.answer.Goals as goal
 
 pub returns : goal.returns
 returns c =
-    answered_as (ap (front 2 block_width) (c.block.ensures ∙ ap block_head c.asked.ensures)) (answered_whole (search rules) c.front.ensures.put)
+    answered_as (ap (front 2 block_width) (c.block-head.ensures ∙ ap block_head c.asked.ensures)) (answered_whole (search rules) c.front_before.ensures.put)

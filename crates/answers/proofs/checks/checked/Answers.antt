@@ -4,5 +4,5 @@ use Rattle.answers.proofs.checks.checked.Goals as goal
 
 pub returns : goal.returns
 returns c =
-    let r = check_asked_lem c.args.request.now c.args.lent.now c.u16_at-interruptions.ensures c.u32_at-n.ensures c.requires.numbers_len c.read_numbers.ensures c.check.ensures in
+    let r = check_asked_lem c.args.request.now c.args.lent.now c.u16_at-interruptions.ensures c.u32_at-n.ensures c.requires.numbers_len c.read_list.ensures c.check.ensures in
     record { value = r.0; numbers_after = r.1 }

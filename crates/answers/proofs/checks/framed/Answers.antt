@@ -8,4 +8,4 @@ use Rattle.answers.proofs.checks.framed.Goals as goal
 pub returns : goal.returns
 returns c =
     answered_as (check_framed c.args.request.now c.args.bytes.now c.check-head.ensures c.checked.ensures.value c.checked.ensures.numbers_after)
-    (answered_whole {l = c.args.bytes.now} (search rules) (put_then c.front-after_head.ensures.put c.put_numbers.ensures.put))
+    (answered_whole {l = c.args.bytes.now} (search rules) (put_then c.front_before-at.ensures.put c.put_list.ensures.put))

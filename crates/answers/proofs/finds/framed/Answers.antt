@@ -8,4 +8,4 @@ use Rattle.answers.proofs.finds.framed.Goals as goal
 pub returns : goal.returns
 returns c =
     find_framed c.args.request.now c.args.bytes.now c.sought.result c.find-head.ensures c.sought.ensures
-    (answered_whole {l = c.args.bytes.now} (search rules) (put_then c.front-after_head.ensures.put c.put_blocks.ensures.put))
+    (answered_whole {l = c.args.bytes.now} (search rules) (put_then c.front_before-at.ensures.put c.put_list.ensures.put))

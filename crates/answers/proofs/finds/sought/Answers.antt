@@ -4,4 +4,4 @@ use Rattle.answers.proofs.finds.sought.Goals as goal
 
 pub returns : goal.returns
 returns c =
-    find_asked c.args.request.now c.args.lent.now c.u16_at-scope.ensures c.u16_at-block.ensures c.u32_at-n.ensures c.requires.rows_len c.read_blocks.ensures c.find.ensures
+    find_asked c.args.request.now c.args.lent.now c.u16_at-scope.ensures c.u16_at-block.ensures c.u32_at-n.ensures c.requires.rows_len c.read_list.ensures c.find.ensures

@@ -12,7 +12,7 @@ use Rattle.answers.proofs.salvages.framed.Goals as goal
 pub returns : goal.returns
 returns c =
     let asked = salvage_asked c.args.request.now (c.args.file.now ++ drop lent_at c.args.bytes.now) in
-    let l = c.put_numbers.new.out in
-    let e = put_behind c.args.bytes.now asked.out lent_at c.u32_at.ensures (search rules) c.salvaged.ensures.bytes_after c.put_numbers.ensures.put (search rules) in
+    let l = c.put_list.new.out in
+    let e = put_behind c.args.bytes.now asked.out lent_at c.u32_at.ensures (search rules) c.salvaged.ensures.bytes_after c.put_list.ensures.put (search rules) in
     answered_as (salvage_framed asked c.salvage-head.ensures c.salvaged.ensures.value c.salvaged.ensures.numbers_after)
     (answered_before {l = l} _ (search rules) c.salvage_front.ensures.put (drop_place l c.salvage_front.result lent_at (search rules) e))

@@ -8,4 +8,4 @@ use Rattle.answers.proofs.sets.answer.Goals as goal
 
 pub returns : goal.returns
 returns c =
-    answered_as (ap (front 3 set_width) (c.set.ensures ∙ ap set_head c.asked.ensures)) (answered_whole (search rules) c.front.ensures.put)
+    answered_as (ap (front 3 set_width) (c.set-head.ensures ∙ ap set_head c.asked.ensures)) (answered_whole (search rules) c.front_before.ensures.put)

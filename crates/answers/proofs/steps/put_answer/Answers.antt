@@ -10,4 +10,4 @@ pub returns : goal.returns
 unfolding step_frame
 returns c =
     answered_as (front_same 1 outcome_width _ c.step.ensures)
-    (answered_whole {l = c.args.out.now} (search rules) (put_then c.front-after_head.ensures.put (put_then c.put_blocks-after_lines.ensures.put c.put.ensures.put)))
+    (answered_whole {l = c.args.out.now} (search rules) (put_then c.front-after_head.ensures.put (put_then c.put_list-after_lines.ensures.put c.put.ensures.put)))

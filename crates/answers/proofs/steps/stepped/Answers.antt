@@ -4,4 +4,4 @@ use Rattle.answers.proofs.steps.stepped.Goals as goal
 
 pub returns : goal.returns
 returns c =
-    step_asked_lem _ c.read_blocks.ensures c.u16_at.ensures c.step.ensures
+    step_asked_lem _ c.read_list.ensures c.u16_at.ensures c.step.ensures

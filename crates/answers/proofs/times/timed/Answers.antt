@@ -4,4 +4,4 @@ use Rattle.answers.proofs.times.timed.Goals as goal
 
 pub returns : goal.returns
 returns c =
-    time_asked_lem c.args.request.now c.args.lent.now c.u16_at-interruptions.ensures c.u32_at-penalty.ensures c.u32_at-n.ensures c.requires.costs_len c.read_longs_at.ensures.longs_after c.time.ensures
+    time_asked_lem c.args.request.now c.args.lent.now c.u16_at-interruptions.ensures c.u32_at-penalty.ensures c.u32_at-n.ensures c.requires.costs_len c.read_list_at.ensures.numbers_after c.time.ensures

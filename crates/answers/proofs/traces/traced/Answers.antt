@@ -9,5 +9,5 @@ use Rattle.answers.proofs.traces.traced.Goals as goal
 
 pub returns : goal.returns
 returns c =
-    let a = trace_asked_lem c.args.request.now c.args.bytes.now c.requires.blocks_len c.read_blocks.ensures c.trace_run.ensures in
+    let a = trace_asked_lem c.args.request.now c.args.bytes.now c.requires.blocks_len c.read_list.ensures c.trace_run.ensures in
     record { value = a.0; bytes_after = tail_left c.args.bytes.now _ (lent_at + 2 * length c.args.blocks.now) (search rules) ∙ a.1 }

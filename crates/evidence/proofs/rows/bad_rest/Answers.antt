@@ -1,26 +1,18 @@
 -- Slots before n are not free by right, so a look from n on is a look at all seven.
 use borrow.Author.Rules.{rules}
-use borrow.Author.Tests.{eq-eqb, ne_eqb}
-use mathlib.Core.Path.{refl, ap}
+use native.Mathlib.Omega.{arith}
 use mathlib.Core.Bool.{not}
-use Rattle.paper.proofs.Least.{passed_more, some_found, some_end}
+use mathlib.Core.Path.{refl}
+use lib.Dec.{eqb}
+use Rattle.paper.specs.Files.{row_at}
+use Rattle.paper.specs.Machines.{none}
+use Rattle.evidence.specs.RowParts.{unfree}
+use Rattle.evidence.proofs.Asks.{some_asked_from}
 use Rattle.evidence.proofs.Slots.{unfree_before, unfree_at}
 use Rattle.evidence.proofs.rows.bad_rest.Goals as goal
 
-pub loop-i-init : goal.loop-i-init
-loop-i-init c = (record { within = search rules; none = unfree_before _ _ }, search rules)
-
-pub returns-then-slot_at : goal.returns-then-slot_at
-returns-then-slot_at c =
-    some_found _ _ _ c.loop-i.invariant.0 _ c.loop-i-test.true
-    (unfree_at _ _ _ _ _ c.loop-i.invariant.1 c.slot_at.ensures (ap not (ne_eqb _ _ c.if-slot_at.true))) refl
-
-pub loop-i-preserved : goal.loop-i-preserved
-loop-i-preserved c = (
-  passed_more _ _ _ _ c.loop-i.invariant.0 c.loop-i-test.true
-      (unfree_at _ _ _ _ _ c.loop-i.invariant.1 c.slot_at.ensures (ap not (eq-eqb _ _ c.if-slot_at.false))) refl,
-  search rules,
-)
-
 pub returns : goal.returns
-returns c = some_end _ _ _ c.loop-i.invariant.0 c.loop-i-test.false
+returns c =
+    let r = row_at c.args.file.now c.args.at in
+    some_asked_from (unfree c.args.n r) (λ k. not (eqb (r.slot k) none)) c.args.n 7 (unfree_before _ r) (λ k l. unfree_at _ r k _ _ l refl refl) (omega arith) _ _ _ c.any.ensures.ran
+    (λ x b q k. search rules)

@@ -5,13 +5,13 @@ use Rattle.evidence.proofs.OneRow.{row_high, row_other, row_long, row_block, row
 use Rattle.evidence.proofs.Scopes.{row_is, limit_low, limit_high}
 use Rattle.evidence.proofs.rows.bad_row.Goals as goal
 
-pub returns-then-n-gt9 : goal.returns-then-n-gt9
-returns-then-n-gt9 c =
-    row_high _ _ _ _ c.number_at-n.ensures c.if-n-gt9.true ∙ row_is _ _ _ _ _ c.row_at-at.ensures.value
+pub returns-then-n-gt-UNFETCHED : goal.returns-then-n-gt-UNFETCHED
+returns-then-n-gt-UNFETCHED c =
+    row_high _ _ _ _ c.number_at-n.ensures c.if-n-gt-UNFETCHED.true ∙ row_is _ _ _ _ _ c.row_at-at.ensures.value
 
-pub returns-then-n-ge8 : goal.returns-then-n-ge8
-returns-then-n-ge8 c =
-    row_other _ _ _ _ c.number_at-n.ensures _ c.if-n-ge8.true (omega arith) c.bad_rest.ensures
+pub returns-then-n-ge-MANY : goal.returns-then-n-ge-MANY
+returns-then-n-ge-MANY c =
+    row_other _ _ _ _ c.number_at-n.ensures _ c.if-n-ge-MANY.true (omega arith) c.bad_rest.ensures
     ∙ row_is _ _ _ _ _ c.row_at-at.ensures.value
 
 pub returns-then-h-n : goal.returns-then-h-n

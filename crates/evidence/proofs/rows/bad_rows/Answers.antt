@@ -1,24 +1,12 @@
--- `evidence::rows::bad_rows`: the first bad row stops the loop; before it none was bad.
+-- The nodes are asked in turn whether their rows are bad.
 use borrow.Author.Rules.{rules}
-use Rattle.paper.proofs.Least.{passed_start, passed_more, least_found, least_end}
-use Rattle.evidence.proofs.Scopes.{made_ready}
+use Rattle.paper.specs.Facts.{bad_row_at}
+use Rattle.paper.specs.Files.{case_of}
+use Rattle.evidence.specs.Stands.{fact_of}
+use Rattle.evidence.proofs.Asks.{first_asked}
 use Rattle.evidence.proofs.rows.bad_rows.Goals as goal
 
-pub bad_row-requires : goal.bad_row-requires
-bad_row-requires c =
-    record { ready = made_ready _ _ _ c.requires.laid c.sets_of-sets.ensures; stands = search rules; whole = search rules; j_bound = search rules }
-
-pub returns-then-bad_row : goal.returns-then-bad_row
-returns-then-bad_row c =
-    rw (← c.nodes_of-n.ensures.value)
-    (least_found _ _ _ _ c.loop-j.invariant c.loop-j-test.true c.bad_row.ensures c.if-bad_row.true)
-
-pub loop-j-preserved : goal.loop-j-preserved
-loop-j-preserved c =
-    passed_more _ _ _ _ c.loop-j.invariant c.loop-j-test.true c.bad_row.ensures c.if-bad_row.false
-
 pub returns : goal.returns
-returns c = rw (← c.nodes_of-n.ensures.value) (least_end _ _ _ c.loop-j.invariant c.loop-j-test.false)
-
-pub loop-j-init : goal.loop-j-init
-loop-j-init c = passed_start _ _
+returns c =
+    let p = bad_row_at (case_of c.args.file.now c.args.trailer) (fact_of c.args.file.now c.args.h) in
+    rw (← c.nodes.ensures.value) (first_asked p c.nodes.result _ _ _ c.find.ensures.ran (λ x b q k. search rules))

@@ -1,12 +1,7 @@
--- `evidence::rows::elsewhere`: what is ready says where x lives, and the head where the fact's block does.
+-- `evidence::rows::elsewhere`: the sets say where x lives, and the head where the fact's block does.
 use mathlib.Core.Path.{refl}
 use Rattle.evidence.proofs.Scopes.{home_of}
 use Rattle.evidence.proofs.rows.elsewhere.Goals as goal
 
-pub home_in-requires : goal.home_in-requires
-home_in-requires c =
-    let p = c.requires in
-    record { count_nonzero = (p.some, p.few); sets_value = p.made }
-
 pub returns : goal.returns
-returns c = rw (home_of _ _ c.requires _ _ c.home_in.ensures.value) refl
+returns c = rw (home_of _ _ c.requires _ _ c.home.ensures.value) refl

@@ -1,7 +1,6 @@
 -- `evidence::steps::bad_steps`: edges before the first one looked at come from nodes before the scope, those after the last from nodes after it.
 use native.Mathlib.Omega.{arith}
-use Rattle.paper.proofs.Least.{least_found, least_end}
-use Rattle.evidence.proofs.Scopes.{made_ready}
+use Rattle.layout.proofs.FirstLaws.{first_found, first_end}
 use Rattle.evidence.proofs.OneStep.{reached_start, reached_more, reached_after}
 use Rattle.evidence.proofs.steps.bad_steps.Goals as goal
 
@@ -15,10 +14,9 @@ returns-then-h-u c =
 pub bad_step-requires : goal.bad_step-requires
 bad_step-requires c =
     let w = c.loop-i.invariant in
-    let ready = made_ready _ _ _ c.requires.laid c.sets_of-sets.ensures in
     record {
       laid = c.requires.laid;
-      ready = ready;
+      ready = record { count = c.of-sets.ensures };
       stands = c.requires.stands;
       whole = c.requires.whole;
       sound_rows = c.requires.sound_rows;
@@ -32,11 +30,11 @@ bad_step-requires c =
 
 pub returns-then-bad_step : goal.returns-then-bad_step
 returns-then-bad_step c =
-    least_found _ _ _ _ c.loop-i.invariant.passed c.loop-i-test.true c.bad_step.ensures c.if-bad_step.true
+    first_found _ _ _ c.loop-i.invariant.passed _ c.loop-i-test.true c.bad_step.ensures c.if-bad_step.true
 
 pub loop-i-preserved : goal.loop-i-preserved
 loop-i-preserved c =
     reached_more _ _ _ c.requires.stands _ c.loop-i.invariant c.loop-i-test.true _ c.bad_step.ensures c.if-bad_step.false
 
 pub returns : goal.returns
-returns c = least_end _ _ _ c.loop-i.invariant.passed c.loop-i-test.false
+returns c = first_end _ _ _ c.loop-i.invariant.passed c.loop-i-test.false

@@ -8,32 +8,32 @@ pub returns-then-x-h : goal.returns-then-x-h
 returns-then-x-h c =
     breaks_b _ _ _ c.requires.stands _ _ _ _ _ c.row_at-s.ensures.value c.number_at-m.ensures c.if-x-h.true
 
-pub returns-then-n-eq9 : goal.returns-then-n-eq9
-returns-then-n-eq9 c =
+pub returns-then-n-eq-UNFETCHED : goal.returns-then-n-eq-UNFETCHED
+returns-then-n-eq-UNFETCHED c =
     breaks_not_since _ _ _ c.requires.stands _ _ _ _ _ c.row_at-s.ensures.value c.number_at-m.ensures c.if-x-h.false _ _
-    c.row_at-r.ensures.value c.number_at-n.ensures c.if-n-eq9.true
+    c.row_at-r.ensures.value c.number_at-n.ensures c.if-n-eq-UNFETCHED.true
 
-pub returns-then-n-eq8 : goal.returns-then-n-eq8
-returns-then-n-eq8 c =
+pub returns-then-n-eq-MANY : goal.returns-then-n-eq-MANY
+returns-then-n-eq-MANY c =
     breaks_many _ _ _ c.requires.stands _ _ _ _ _ c.row_at-s.ensures.value c.number_at-m.ensures c.if-x-h.false _ _
-    c.row_at-r.ensures.value c.number_at-n.ensures c.if-n-eq9.false c.if-n-eq8.true
+    c.row_at-r.ensures.value c.number_at-n.ensures c.if-n-eq-UNFETCHED.false c.if-n-eq-MANY.true
 
-pub returns-then-m-ge8 : goal.returns-then-m-ge8
-returns-then-m-ge8 c =
+pub returns-then-m-ge-MANY : goal.returns-then-m-ge-MANY
+returns-then-m-ge-MANY c =
     breaks_no_set _ _ _ c.requires.stands _ _ _ _ _ c.row_at-s.ensures.value c.number_at-m.ensures c.if-x-h.false _ _
-    c.row_at-r.ensures.value c.number_at-n.ensures c.if-n-eq9.false c.if-n-eq8.false c.if-m-ge8.true
+    c.row_at-r.ensures.value c.number_at-n.ensures c.if-n-eq-UNFETCHED.false c.if-n-eq-MANY.false c.if-m-ge-MANY.true
 
 pub returns-then-same_row : goal.returns-then-same_row
 returns-then-same_row c =
     let l = number_at _ _ _ c.requires.sound_rows _ _ _ c.requires.i_bound.0 c.row_at-r.ensures.value c.number_at-n.ensures in
     breaks_same _ _ _ c.requires.stands _ _ _ _ _ c.row_at-s.ensures.value c.number_at-m.ensures c.if-x-h.false _ _
-    c.row_at-r.ensures.value c.number_at-n.ensures c.if-n-eq9.false c.if-n-eq8.false (omega arith) _
-    (c.same_row.ensures c.if-same_row.true) (omega (arith, c.if-n-eq9.false, c.if-n-eq8.false)) c.lost.ensures
+    c.row_at-r.ensures.value c.number_at-n.ensures c.if-n-eq-UNFETCHED.false c.if-n-eq-MANY.false (omega arith) _
+    (c.same_row.ensures c.if-same_row.true) (omega (arith, c.if-n-eq-UNFETCHED.false, c.if-n-eq-MANY.false)) c.lost.ensures
 
 pub returns-then-lost : goal.returns-then-lost
 returns-then-lost c =
     breaks_lost _ _ _ c.requires.stands _ _ _ _ _ c.row_at-s.ensures.value c.number_at-m.ensures c.if-x-h.false _ _
-    c.row_at-r.ensures.value c.number_at-n.ensures c.if-n-eq9.false c.if-n-eq8.false (omega arith) _
+    c.row_at-r.ensures.value c.number_at-n.ensures c.if-n-eq-UNFETCHED.false c.if-n-eq-MANY.false (omega arith) _
     c.lost-2.ensures c.if-lost.true
 
 pub drops-requires : goal.drops-requires
@@ -45,6 +45,6 @@ pub returns : goal.returns
 returns c =
     let l = number_at _ _ _ c.requires.sound_rows _ _ _ c.requires.i_bound.0 c.row_at-r.ensures.value c.number_at-n.ensures in
     breaks_drops _ _ _ c.requires.stands _ _ _ _ _ c.row_at-s.ensures.value c.number_at-m.ensures c.if-x-h.false _ _
-    c.row_at-r.ensures.value c.number_at-n.ensures c.if-n-eq9.false c.if-n-eq8.false (omega arith) _ _
+    c.row_at-r.ensures.value c.number_at-n.ensures c.if-n-eq-UNFETCHED.false c.if-n-eq-MANY.false (omega arith) _ _
     c.lost-2.ensures c.if-lost.false
-    (omega (arith, c.if-n-eq9.false, c.if-n-eq8.false)) c.drops.ensures
+    (omega (arith, c.if-n-eq-UNFETCHED.false, c.if-n-eq-MANY.false)) c.drops.ensures

@@ -22,14 +22,14 @@ pub row_at-requires : goal.row_at-requires
 row_at-requires c =
     record { whole = c.requires.whole; j_bound = omega (arith, step_inside _ _ _ c.requires.stands _ c.requires.bad_step.bad, c.from_at-u.ensures) }
 
-pub returns-then-number_at-eq8 : goal.returns-then-number_at-eq8
-returns-then-number_at-eq8 c =
-    rw (ne_eqb _ _ c.if-node_at-h.false, eq-eqb _ _ c.if-number_at-eq8.true) at
+pub returns-then-number_at-eq-MANY : goal.returns-then-number_at-eq-MANY
+returns-then-number_at-eq-MANY c =
+    rw (ne_eqb _ _ c.if-node_at-h.false, eq-eqb _ _ c.if-number_at-eq-MANY.true) at
     (step_told_lem _ _ _ c.requires.stands _ c.requires.bad_step.bad _ c.node_at.result _ c.number_at.result c.from_at-u.ensures c.node_at.ensures
     c.row_at.ensures.value c.number_at.ensures)
 
 pub returns : goal.returns
 returns c =
-    rw (ne_eqb _ _ c.if-node_at-h.false, ne_eqb _ _ c.if-number_at-eq8.false) at
+    rw (ne_eqb _ _ c.if-node_at-h.false, ne_eqb _ _ c.if-number_at-eq-MANY.false) at
     (step_told_lem _ _ _ c.requires.stands _ c.requires.bad_step.bad _ c.node_at.result _ c.number_at.result c.from_at-u.ensures c.node_at.ensures
     c.row_at.ensures.value c.number_at.ensures)

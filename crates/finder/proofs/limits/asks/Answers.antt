@@ -5,10 +5,10 @@ use borrow.Author.Tests.{eq-eqb, ne_eqb}
 use Rattle.search.specs.Passes.{asks}
 use Rattle.finder.proofs.limits.asks.Goals as goal
 
-pub returns-then-n-eq9 : goal.returns-then-n-eq9
+pub returns-then-n-eq-UNFETCHED : goal.returns-then-n-eq-UNFETCHED
 unfolding asks
-returns-then-n-eq9 c = rw (eq-eqb _ _ c.if-n-eq9.true) refl
+returns-then-n-eq-UNFETCHED c = rw (eq-eqb _ _ c.if-n-eq-UNFETCHED.true) refl
 
 pub returns : goal.returns
 unfolding asks
-returns c = rw (ne_eqb _ _ c.if-n-eq9.false) (add-one _)
+returns c = rw (ne_eqb _ _ c.if-n-eq-UNFETCHED.false) (add-one _)

@@ -1,12 +1,8 @@
 -- `finder::limits::most_asked`: a node after another (`Asking`).
-use Prim.Native.Nat.{◌-◌}
 use Rattle.paper.specs.Files.{case_of}
 use Rattle.finder.specs.Scopes.{fact_by}
 use Rattle.finder.proofs.Passing.{Asking}
 use Rattle.finder.proofs.limits.most_asked.Given as goal
 
 abbrev pub invariant-loop-j : goal.invariant-loop-j
-invariant-loop-j l = Asking (case_of l.file l.trailer) (fact_by l.file l.trailer l.q) l.table l.n l.j l.most
-
-abbrev pub decreases-loop-j : goal.decreases-loop-j
-decreases-loop-j l = l.n - l.j
+invariant-loop-j l = Asking (case_of l.file l.trailer) (fact_by l.file l.trailer l.q) l.table l.j-end l.j l.most

@@ -14,7 +14,7 @@ asks-requires c =
 
 pub returns-then-fetches : goal.returns-then-fetches
 returns-then-fetches c =
-    rw (← c.fetches.ensures, c.if-fetches.true) (c.greater.ensures ∙ ap (max _) (c.asks.ensures ∙ ap (λ (x : List ℕ). asks (number_of x)) c.row_of-r.ensures))
+    rw (← c.fetches.ensures, c.if-fetches.true) (c.max.ensures ∙ ap (max _) (c.asks.ensures ∙ ap (λ (x : List ℕ). asks (number_of x)) c.row_of-r.ensures))
 
 pub returns : goal.returns
 returns c = rw (← c.fetches.ensures, c.if-fetches.false) refl

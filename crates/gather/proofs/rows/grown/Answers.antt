@@ -7,7 +7,6 @@ use Rattle.gather.proofs.rows.grown.Goals as goal
 pub returns : goal.returns
 unfolding grown grown_at placed
 returns c =
-    let half = c.before.before.before.before in
     made_of _
-    (add-one _) half.lesser.ensures half.middle.ensures half.middle-2.ensures
+    (add-one _) c.lesser.ensures c.middle.ensures c.middle-2.ensures
     c.middle-3.ensures c.middle-4.ensures c.middle-5.ensures c.middle-6.ensures

@@ -4,10 +4,10 @@ use borrow.Author.Tests.{eq-eqb, ne_eqb}
 use Rattle.search.specs.Steps.{opened}
 use Rattle.gather.proofs.rows.opened.Goals as goal
 
-pub returns-then-s-eq9 : goal.returns-then-s-eq9
+pub returns-then-s-eq-UNFETCHED : goal.returns-then-s-eq-UNFETCHED
 unfolding opened
-returns-then-s-eq9 c = rw (eq-eqb _ _ c.if-s-eq9.true) c.plain.ensures
+returns-then-s-eq-UNFETCHED c = rw (eq-eqb _ _ c.if-s-eq-UNFETCHED.true) c.plain.ensures
 
-pub returns-else-s-eq9 : goal.returns-else-s-eq9
+pub returns-else-s-eq-UNFETCHED : goal.returns-else-s-eq-UNFETCHED
 unfolding opened
-returns-else-s-eq9 c = rw (ne_eqb _ _ c.if-s-eq9.false) refl
+returns-else-s-eq-UNFETCHED c = rw (ne_eqb _ _ c.if-s-eq-UNFETCHED.false) refl

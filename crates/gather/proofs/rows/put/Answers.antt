@@ -9,19 +9,14 @@ returns-then-r-among c = rw (← c.among.ensures, c.if-r-among.true) refl
 
 pub grown-requires : goal.grown-requires
 grown-requires c =
-    let room = c.before in
-    room.still_fits.ensures.n_bound c.if-still_fits.true
+    c.still_fits.ensures.n_bound c.if-still_fits.true
 
 pub returns-then-still_fits : goal.returns-then-still_fits
 unfolding put
 returns-then-still_fits c =
-    let room = c.before.before in
-    let full = room.before in
-    rw (← full.among.ensures, full.if-r-among.false, ← room.still_fits.ensures.value, c.if-still_fits.true) c.grown.ensures
+    rw (← c.among.ensures, c.if-r-among.false, ← c.still_fits.ensures.value, c.if-still_fits.true) c.grown.ensures
 
 pub returns : goal.returns
 unfolding put
 returns c =
-    let room = c.before.before in
-    let full = room.before in
-    rw (← full.among.ensures, full.if-r-among.false, ← room.still_fits.ensures.value, c.if-still_fits.false) c.plain.ensures
+    rw (← c.among.ensures, c.if-r-among.false, ← c.still_fits.ensures.value, c.if-still_fits.false) c.plain.ensures

@@ -1,5 +1,4 @@
 -- The loop stops at the least edge that its mark does not allow (`Passed`, `edge_at`).
-use Prim.Native.Nat.{◌-◌}
 use Rattle.paper.specs.Files.{case_of}
 use Rattle.paper.proofs.Least.{Passed}
 use Rattle.graph.specs.Marks.{edge_rule}
@@ -7,6 +6,3 @@ use Rattle.graph.proofs.edges.first_edge.Given as goal
 
 abbrev pub invariant-loop-i : goal.invariant-loop-i
 invariant-loop-i l = Passed (edge_rule (case_of l.file l.trailer) l.rule) l.trailer.edges l.i
-
-abbrev pub decreases-loop-i : goal.decreases-loop-i
-decreases-loop-i l = l.trailer.edges - l.i

@@ -1,5 +1,4 @@
 -- The loop stops at the least 0; before it there was none (`Passed`).
-use Prim.Native.Nat.{◌-◌}
 use lib.Dec.{eqb}
 use lib.ListN.{get_or}
 use Rattle.paper.proofs.Least.{Passed}
@@ -7,6 +6,3 @@ use Rattle.graph.proofs.marks.first_zero.Given as goal
 
 abbrev pub invariant-loop-v : goal.invariant-loop-v
 invariant-loop-v l = Passed (λ k. eqb (get_or l.table k 0) 0) l.n l.v
-
-abbrev pub decreases-loop-v : goal.decreases-loop-v
-decreases-loop-v l = l.n - l.v

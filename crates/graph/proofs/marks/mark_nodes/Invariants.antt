@@ -1,5 +1,4 @@
 -- A table that holds the marks of the first j loops.
-use Prim.Native.Nat.{◌-◌, ◌≤◌}
 use mathlib.Core.Path.{◌≡◌}
 use lib.ListN.{length}
 use Rattle.paper.specs.Files.{case_of}
@@ -9,7 +8,4 @@ use Rattle.graph.proofs.marks.mark_nodes.Given as goal
 
 abbrev pub invariant-loop-j : goal.invariant-loop-j
 invariant-loop-j l =
-    (l.j ≤ l.trailer.loops) × (length l.table ≡ length l.initial.table) × Holds (λ v. marked_to (marks (case_of l.file l.trailer) l.rule) l.start v l.j) l.trailer.nodes l.table
-
-abbrev pub decreases-loop-j : goal.decreases-loop-j
-decreases-loop-j l = l.trailer.loops - l.j
+    (length l.table ≡ length l.initial.table) × Holds (λ v. marked_to (marks (case_of l.file l.fn.trailer) l.rule) l.start v l.j) l.fn.trailer.nodes l.table

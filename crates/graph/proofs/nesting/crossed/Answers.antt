@@ -1,21 +1,14 @@
 -- The loop stops at the least earlier loop that is crossed (`Passed`).
-use Rattle.paper.proofs.Least.{passed_start, passed_more, least_found, least_end}
+use mathlib.Core.Path.{◌∙◌, ap}
+use Rattle.paper.specs.declared.Loop.{Loop}
+use Rattle.paper.specs.Graphs.{crosses}
+use Rattle.paper.proofs.Least.{some_found, some_end}
+use Rattle.graph.specs.Wide.{as_loop}
 use Rattle.graph.proofs.nesting.crossed.Goals as goal
 
-pub loop-j-init : goal.loop-j-init
-loop-j-init c = passed_start _ _
-
 pub returns-then-crosses : goal.returns-then-crosses
-returns-then-crosses c =
-    least_found _ _ _ _ c.loop-j.invariant c.loop-j-test.true
-    (cc)
-    c.if-crosses.true
-
-pub loop-j-preserved : goal.loop-j-preserved
-loop-j-preserved c =
-    passed_more _ _ _ _ c.loop-j.invariant c.loop-j-test.true
-    (cc)
-    c.if-crosses.false
+returns-then-crosses g c =
+    some_found _ _ _ c.loop-j.invariant _ c.loop-j-test.true (c.crosses.ensures ∙ ap (λ (l : Loop). crosses l (as_loop c.args.l)) c.loop_at.ensures) c.if-crosses.true
 
 pub returns : goal.returns
-returns c = least_end _ _ _ c.loop-j.invariant c.loop-j-test.false
+returns g c = some_end _ _ _ c.loop-j.invariant c.loop-j-test.false

@@ -11,10 +11,7 @@ use Rattle.layout.proofs.facts.same_row.Goals as goal
 pub returns : goal.returns
 unfolding u16_at
 returns c t =
-    let b = c.before.before in
-    let a = b.before in
-    let known = a.shared_slice_known-1.given in
     let e = both _ _ t in
-    same_rows a.args.file.now (λ p. omega (arith, known p, known (p + 1))) _ _
-    (sym a.four_at.ensures ∙ eqb-true _ _ e.0 ∙ b.four_at-2.ensures)
+    same_rows c.args.file.now (λ p. omega (arith, (c.type_inv.file p).fits, (c.type_inv.file (p + 1)).fits)) _ _
+    (sym c.four_at.ensures ∙ eqb-true _ _ e.0 ∙ c.four_at-2.ensures)
     (sym c.four_at-3.ensures ∙ eqb-true _ _ e.1 ∙ c.four_at-4.ensures)

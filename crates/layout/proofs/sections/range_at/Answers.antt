@@ -1,16 +1,10 @@
 -- 65,535 is the whole graph; any other number is that loop.
-use mathlib.Core.Path.{refl}
-use borrow.Author.Tests.{eq-eqb, ne_eqb}
+use borrow.Author.Tests.{ne_eqb}
 use Rattle.paper.specs.Cases.{range_of}
 use Rattle.layout.proofs.sections.range_at.Goals as goal
 
 pub returns-then-w-eq65535 : goal.returns-then-w-eq65535
-unfolding range_of
-returns-then-w-eq65535 c = rw (eq-eqb _ _ c.if-w-eq65535.true) refl
-
-pub loop_at-requires : goal.loop_at-requires
-loop_at-requires c =
-    record { laid = c.requires.laid; j_lt_loops = c.requires.w_lt_loops c.if-w-eq65535.false }
+returns-then-w-eq65535 c = rw c.if-w-eq65535.true (c.whole_graph.ensures _)
 
 pub returns : goal.returns
 unfolding range_of

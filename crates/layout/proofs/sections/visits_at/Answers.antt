@@ -1,22 +1,12 @@
 -- Version 1 has no W; in version 2 a laid-out file has its bytes, since loop after loop ends before the facts begin.
-use native.Mathlib.Omega.{arith}
 use mathlib.Core.Path.{sym, ◌∙◌}
 use Rattle.paper.specs.Files.{loop_at}
 use Rattle.paper.proofs.LoopSizes.{visits_without, visits_with}
-use Rattle.layout.proofs.LoopPlaces.{all_in}
 use Rattle.layout.proofs.sections.visits_at.Goals as goal
 
 pub returns-then-trailer-eq-WITHOUT_W : goal.returns-then-trailer-eq-WITHOUT_W
 unfolding loop_at
 returns-then-trailer-eq-WITHOUT_W c = sym (visits_without _ _ c.if-trailer-eq-WITHOUT_W.true)
-
-pub overflow_add-loop_place : goal.overflow_add-loop_place
-overflow_add-loop_place c =
-    omega (arith, c.loop_place.ensures, all_in _ _ _ c.requires.laid c.requires.j_lt_loops c.if-trailer-eq-WITHOUT_W.false)
-
-pub u32_at-requires : goal.u32_at-requires
-u32_at-requires c =
-    omega (arith, c.loop_place.ensures, all_in _ _ _ c.requires.laid c.requires.j_lt_loops c.if-trailer-eq-WITHOUT_W.false)
 
 pub returns : goal.returns
 unfolding loop_at

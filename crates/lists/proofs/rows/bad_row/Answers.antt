@@ -4,11 +4,11 @@ use native.Mathlib.Omega.{arith}
 use Rattle.evidence.proofs.OneRow.{row_high, row_other, row_long, row_block, row_set}
 use Rattle.lists.proofs.rows.bad_row.Goals as goal
 
-pub returns-then-n-gt9 : goal.returns-then-n-gt9
-returns-then-n-gt9 c = row_high _ _ _ _ refl c.if-n-gt9.true
+pub returns-then-n-gt-UNFETCHED : goal.returns-then-n-gt-UNFETCHED
+returns-then-n-gt-UNFETCHED c = row_high _ _ _ _ refl c.if-n-gt-UNFETCHED.true
 
-pub returns-then-n-ge8 : goal.returns-then-n-ge8
-returns-then-n-ge8 c = row_other _ _ _ _ refl _ c.if-n-ge8.true (omega arith) c.bad_rest.ensures
+pub returns-then-n-ge-MANY : goal.returns-then-n-ge-MANY
+returns-then-n-ge-MANY c = row_other _ _ _ _ refl _ c.if-n-ge-MANY.true (omega arith) c.bad_rest.ensures
 
 pub returns-then-h-n : goal.returns-then-h-n
 returns-then-h-n c = row_long _ _ _ _ refl (omega arith) c.if-h-n.true

@@ -1,5 +1,4 @@
 -- `lists::rows::bad_rows`: the first bad row stops the loop; before it none was bad.
-use Prim.Native.Nat.{◌-◌}
 use Rattle.paper.specs.Facts.{bad_row_at}
 use Rattle.paper.proofs.Least.{Passed}
 use Rattle.lists.specs.Listed.{fact_of, row_case}
@@ -7,6 +6,3 @@ use Rattle.lists.proofs.rows.bad_rows.Given as goal
 
 abbrev pub invariant-loop-j : goal.invariant-loop-j
 invariant-loop-j l = Passed (bad_row_at (row_case l.trailer) (fact_of l.rows l.h)) l.n l.j
-
-abbrev pub decreases-loop-j : goal.decreases-loop-j
-decreases-loop-j l = l.n - l.j

@@ -1,10 +1,13 @@
--- `lists::whole::rows_named_lem` adds what the heads name.
+-- What the heads name is added, head by head.
+use Prim.Native.Nat.{◌+◌, ◌*◌}
+use native.Mathlib.Omega.{arith}
+use mathlib.Core.Path.{refl}
 use Rattle.paper.proofs.Sums.{added_start, added_more, added_end}
 use Rattle.lists.proofs.whole.rows_named.Goals as goal
 
 pub loop-i-preserved : goal.loop-i-preserved
 loop-i-preserved c =
-    added_more _ _ _ _ _ _ c.loop-i.invariant c.loop-i-test.true c.wide-sum.ensures.value c.wide-sum.ensures.upper_bound
+    added_more _ _ _ _ _ _ c.loop-i.invariant c.loop-i-test.true refl (omega (arith, (c.type_inv.heads (4 * c.loop-i.i + 3)).fits))
 
 pub loop-i-init : goal.loop-i-init
 loop-i-init c = added_start _ _ _

@@ -1,11 +1,8 @@
--- `lists::whole::rows_named_lem` adds what the heads name.
-use Prim.Native.Nat.{◌+◌, ◌-◌, ◌*◌}
+-- What the heads name is added, head by head.
+use Prim.Native.Nat.{◌+◌, ◌*◌}
 use lib.ListN.{get_or}
 use Rattle.paper.proofs.Sums.{Added}
 use Rattle.lists.proofs.whole.rows_named.Given as goal
 
 abbrev pub invariant-loop-i : goal.invariant-loop-i
 invariant-loop-i l = Added (λ k. get_or l.heads (4 * k + 3) 0) 65535 l.n l.sum l.i
-
-abbrev pub decreases-loop-i : goal.decreases-loop-i
-decreases-loop-i l = l.n - l.i

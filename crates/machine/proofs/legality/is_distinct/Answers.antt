@@ -7,7 +7,7 @@ use lib.ListN.{length}
 use borrow.Author.Rules.{rules}
 use Rattle.machine.proofs.Search.{distinct_empty, distinct_on, distinct_not, distinct_end}
 use Rattle.machine.proofs.legality.is_distinct.Goals as goal
-use Rattle.machine.proofs.legality.is_distinct.Goals.{then-b+else-stands_from, else-b}
+use Rattle.machine.proofs.legality.is_distinct.Goals.{else-b-via-then-b+else-stands_from, else-b-via-else-b}
 
 pub returns-then-stands_from : goal.returns-then-stands_from
 returns-then-stands_from c =
@@ -20,7 +20,7 @@ loop-i-preserved c =
     let h : i < length l = omega arith in (
       omega arith,
       c.loop-i.invariant.1
-          ∙ rw add-one (elim c.if-b.branch [ then-b+else-stands_from w ↦ distinct_on l i h w.if-b.true (rw add-one at (sym w.stands_from.ensures ∙ w.if-stands_from.false)) | else-b w ↦ distinct_empty l i h w.if-b.false ]),
+          ∙ rw add-one (elim c.else-b.branch [ else-b-via-then-b+else-stands_from w ↦ distinct_on l i h w.if-b.true (rw add-one at (sym w.stands_from.ensures ∙ w.if-stands_from.false)) | else-b-via-else-b w ↦ distinct_empty l i h w.if-b.false ]),
     )
 
 pub returns : goal.returns

@@ -1,5 +1,5 @@
 -- The lines looked at do not hold the block (`stands_on`); one that does ends the look.
-use Prim.Native.Nat.{◌-◌, ◌≤◌}
+use Prim.Native.Nat.{◌≤◌}
 use mathlib.Core.Path.{◌≡◌}
 use lib.ListN.{drop}
 use Rattle.paper.specs.Machines.{stands}
@@ -7,6 +7,3 @@ use Rattle.machine.proofs.legality.stands_from.Given as goal
 
 abbrev pub invariant-loop-i : goal.invariant-loop-i
 invariant-loop-i l = (l.i ≤ 8) × (stands (drop l.from l.lines) l.b ≡ stands (drop l.i l.lines) l.b)
-
-abbrev pub decreases-loop-i : goal.decreases-loop-i
-decreases-loop-i l = 8 - l.i

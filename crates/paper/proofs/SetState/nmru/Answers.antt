@@ -7,7 +7,7 @@ use Rattle.paper.proofs.SetState.nmru.Goals as goal
 pub mark-requires : goal.mark-requires
 mark-requires c =
     let a = c.args in
-    record { bit = line_bit a.k a.self a.block.0 c.requires.bits_bound a.line c.requires.line_value; k_bound = (c.requires.ready.high, c.requires.bits_bound); next_value = c.requires.next_value }
+    record { bit = line_bit a.k a.self a.block.0 c.requires.bits_bound a.line c.requires.line_value; k_bound = (c.requires.ready.high, c.requires.bits_bound) }
 
 pub placed-requires : goal.placed-requires
 placed-requires c =

@@ -1,38 +1,29 @@
 -- `paper::methods::mark`: for eight ways by the table's rule, for others by the mask.
-use Prim.Native.Nat.{ℕ, ◌+◌, ◌*◌, ◌≤◌}
+use Prim.Native.Nat.{ℕ, ◌≤◌}
 use native.Mathlib.Omega.{arith}
 use mathlib.Core.Path.{◌≡◌, sym, ◌∙◌, ap, ap₂}
-use mathlib.Core.List.{List}
 use lib.Count.{count_trailing_zeros}
-use lib.ListN.{get_or}
 use lib.Pow.{pow-lt}
 use lib.Bits.{or_lt}
 use Rattle.paper.specs.Machines.{marked}
 use Rattle.paper.specs.Shifts.{Bit, marked_by}
-use Rattle.paper.proofs.Masks.{zeros_bit, full_is, mark_full, mark_more, next_at}
+use Rattle.paper.proofs.Masks.{zeros_bit, full_is, mark_full, mark_more}
 use Rattle.paper.proofs.methods.mark.Goals as goal
 
 place : (k m : ℕ) (b : Bit k m) → k ≤ 8 → count_trailing_zeros 32 m ≡ b.at
 place k m b h = ap (count_trailing_zeros 32) b.is ∙ zeros_bit 32 b.at (omega (arith, b.low))
 
-pub overflow_cast-j-then-k-eq8 : goal.overflow_cast-j-then-k-eq8
-overflow_cast-j-then-k-eq8 c = omega (arith, place _ _ c.requires.bit c.requires.k_bound.0, c.requires.bit.low)
-
-pub overflow_add-at : goal.overflow_add-at
-overflow_add-at c = omega (arith, place _ _ c.requires.bit c.requires.k_bound.0, c.requires.bit.low)
-
-pub bounds-next-at : goal.bounds-next-at
-bounds-next-at c = omega (arith, place _ _ c.requires.bit c.requires.k_bound.0, c.requires.bit.low)
+pub after-requires : goal.after-requires
+after-requires c = omega (arith, place _ _ c.requires.bit c.requires.k_bound.0, c.requires.bit.low)
 
 pub returns-then-k-eq8 : goal.returns-then-k-eq8
 unfolding marked_by marked
 returns-then-k-eq8 c =
-    let s = c.before.before in
-    let a = s.args in
-    let b = s.requires.bit in
+    let a = c.args in
+    let b = c.requires.bit in
     let e : 8 ≡ a.k = sym c.if-k-eq8.true in
-    ap₂ (λ (l : List ℕ) (j : ℕ). get_or l (8 * a.bits + j) 0) s.requires.next_value (place _ _ b s.requires.k_bound.0)
-    ∙ next_at a.bits b.at (omega arith) (omega (arith, b.low))
+    c.after.ensures
+    ∙ ap (marked 8 a.bits) (place _ _ b c.requires.k_bound.0)
     ∙ ap₂ (λ (n m : ℕ). marked_by n a.bits m) e (sym b.is)
 
 pub overflow_cast-result : goal.overflow_cast-result

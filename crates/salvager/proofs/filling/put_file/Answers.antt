@@ -7,4 +7,4 @@ pub returns : goal.returns
 returns c =
     let a = c.args in
     file_put a.file.now a.trailer c.requires.trailer_value c.requires.laid a.s a.spans.now a.whys.now c.requires.sieved _ c.facts_at.ensures
-    (put_then c.copy-graph.ensures.put (put_then c.put_facts-facts.ensures.put c.put_trailer.ensures))
+    (put_then c.word-graph.ensures (put_then c.put_facts-facts.ensures.put c.put_trailer.ensures))

@@ -5,5 +5,5 @@ use Rattle.salvager.proofs.filling.put_trailer.Goals as goal
 
 pub returns : goal.returns
 returns c =
-    trailer_put c.args.file.now c.args.n _ c.end_of-end.ensures c.requires.trailer_size_in_bounds
-    (put_then c.copy-facts.ensures.put (put_then c.put_count-marks.ensures.put c.copy.ensures.put))
+    trailer_put c.args.file.now c.args.n _ c.end_of-end.ensures c.requires.trailer_size_in_bounds c.ranges.n.fits
+    (put_then c.word-facts.ensures (put_then (rw c.to_le_bytes.ensures at c.word-marks.ensures) c.word.ensures))

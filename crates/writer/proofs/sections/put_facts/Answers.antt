@@ -4,7 +4,7 @@ use native.Mathlib.Omega.{arith}
 use borrow.Author.Rules.{rules}
 use Rattle.paper.specs.Lists.{sum_to}
 use Rattle.paper.specs.Writing.{rows_named}
-use Rattle.writer.proofs.Joined.{joined_start, joined_more, joined_end, named_more, rows_there, rows_done}
+use Rattle.writer.proofs.Joined.{joined_start, joined_more, named_more, rows_there}
 use Rattle.writer.proofs.sections.put_facts.Goals as goal
 
 pub loop-i-init : goal.loop-i-init
@@ -16,20 +16,11 @@ put_fact-to-requires c =
     let there = rows_there _ _ _ c.requires.facts_fit _ _ c.loop-i.invariant.1 c.loop-i-test.true in
     record { per_head_in_bounds = search rules; r_value = c.loop-i.invariant.1; i_in_bounds = there; i_in_bounds_2 = omega (arith, there, c.requires.rows_in_bounds, c.loop-i.invariant.2, c.loop-i.invariant.0.kept, c.loop-i-test.true) }
 
-pub overflow_add-r : goal.overflow_add-r
-unfolding rows_named
-overflow_add-r c =
-    search (rules, c.wide-r.ensures, rows_there _ _ _ c.requires.facts_fit _ _ c.loop-i.invariant.1 c.loop-i-test.true)
-
 pub loop-i-preserved : goal.loop-i-preserved
 unfolding rows_named
 loop-i-preserved c =
     let a = c.args in (
-      joined_more c.loop-i.invariant.0 c.loop-i-test.true c.put_fact-to.ensures.put,
-      named_more a.heads.now a.rows.now c.loop-i.i c.loop-i.r _ c.loop-i.invariant.1 c.wide-r.ensures,
-      omega (arith, c.loop-i.invariant.2, c.put_fact-to.ensures.value, c.wide-r.ensures),
+      joined_more c.loop-i.invariant.0 c.put_fact-to.ensures.put,
+      named_more a.heads.now a.rows.now c.loop-i.i c.loop-i.r _ c.loop-i.invariant.1 refl,
+      omega (arith, c.loop-i.invariant.2, c.put_fact-to.ensures.value),
     )
-
-pub returns : goal.returns
-returns c =
-    record { put = joined_end c.loop-i.invariant.0 c.loop-i-test.false; value = omega (arith, c.loop-i.invariant.2, c.loop-i.invariant.0.few, c.loop-i-test.false, rows_done _ _ _ c.requires.facts_fit _ _ c.loop-i.invariant.1 c.loop-i.invariant.0.few c.loop-i-test.false) }

@@ -1,5 +1,5 @@
 -- `writer::sections::put_facts`: a fact after another; r counts the rows before it.
-use Prim.Native.Nat.{◌+◌, ◌-◌, ◌*◌}
+use Prim.Native.Nat.{◌+◌, ◌*◌}
 use mathlib.Core.Path.{◌≡◌}
 use Rattle.paper.specs.Writing.{rows_before, fact_bytes}
 use Rattle.writer.specs.Room.{of_facts}
@@ -8,7 +8,4 @@ use Rattle.writer.proofs.sections.put_facts.Given as goal
 
 abbrev pub invariant-loop-i : goal.invariant-loop-i
 invariant-loop-i l =
-    Joined (fact_bytes (of_facts l.heads l.rows)) l.initial.out l.at l.n l.out l.to l.i × (l.r ≡ rows_before (of_facts l.heads l.rows) l.i) × (l.to ≡ l.at + 6 * l.i + 16 * l.r)
-
-abbrev pub decreases-loop-i : goal.decreases-loop-i
-decreases-loop-i l = l.n - l.i
+    Joined (fact_bytes (of_facts l.heads l.rows)) l.initial.out l.at l.out l.to l.i × (l.r ≡ rows_before (of_facts l.heads l.rows) l.i) × (l.to ≡ l.at + 6 * l.i + 16 * l.r)

@@ -1,5 +1,5 @@
 -- `writer::sections::put_loops`: a loop after another.
-use Prim.Native.Nat.{◌+◌, ◌-◌, ◌*◌}
+use Prim.Native.Nat.{◌+◌, ◌*◌}
 use mathlib.Core.Path.{◌≡◌}
 use Rattle.paper.specs.Records.{loop_size}
 use Rattle.paper.specs.Writing.{loop_bytes, loop_in}
@@ -9,7 +9,4 @@ use Rattle.writer.proofs.sections.put_loops.Given as goal
 
 abbrev pub invariant-loop-j : goal.invariant-loop-j
 invariant-loop-j l =
-    Joined (λ k. loop_bytes l.trailer.version (loop_in (of_loops l.trailer.version l.loops) k)) l.initial.out l.at l.trailer.loops l.out l.to l.j × (l.to ≡ l.at + loop_size l.trailer.version * l.j)
-
-abbrev pub decreases-loop-j : goal.decreases-loop-j
-decreases-loop-j l = l.trailer.loops - l.j
+    Joined (λ k. loop_bytes l.trailer.version (loop_in (of_loops l.trailer.version l.loops) k)) l.initial.out l.at l.out l.to l.j × (l.to ≡ l.at + loop_size l.trailer.version * l.j)
