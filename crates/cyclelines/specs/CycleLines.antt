@@ -18,10 +18,6 @@ file_from input = 8 + 4 * many_in input
 unfoldable pub whole : List ℕ → Bool
 whole input = leb 8 (length input) && (leb (length input) longest_input && leb (file_from input) (length input))
 
--- more costs than an input that is whole has
-abbrev pub costs_room : ℕ
-costs_room = 16384
-
 abbrev pub time_line : Result ℕ Refusal → List ℕ
 time_line (Ok n) = line (bytes "time ") n
 time_line (Err r) = refusal_line r

@@ -65,20 +65,12 @@ fn timed(input: &[u8], costs: &mut [u32], out: &mut [u8; LONGEST]) -> usize
 }
 
 // As much of the room as the costs take.
-fn part(input: &[u8], costs: &mut [u32], out: &mut [u8; LONGEST]) -> usize
-    requires in_bounds { CycleLines.costs_room ≤ length costs.old }
-    requires input_value { CycleLines.whole input.now ≡ true }
+fn part(input: &[u8], costs: &mut [u32; COSTS], out: &mut [u8; LONGEST]) -> usize
+    requires { CycleLines.whole input.now ≡ true }
     ensures { Printed (CycleLines.printed_for input.now) out.old result out.new }
 {
     let n = layout::u16_at(input, 6) as usize;
     timed(input, &mut costs[0..n], out)
-}
-
-fn with_room(input: &[u8], costs: &mut [u32; COSTS], out: &mut [u8; LONGEST]) -> usize
-    requires { CycleLines.whole input.now ≡ true }
-    ensures { Printed (CycleLines.printed_for input.now) out.old result out.new }
-{
-    part(input, costs, out)
 }
 
 // 28, which `bounds` prints for an input that is too long, stands for every input that is not whole.
@@ -87,7 +79,7 @@ pub fn cycles(input: &[u8], out: &mut [u8; LONGEST]) -> usize
 {
     if is_whole(input) {
         let mut costs = [0u32; COSTS];
-        with_room(input, &mut costs, out)
+        part(input, &mut costs, out)
     } else {
         refused(out, paper::refuse(28, 0))
     }

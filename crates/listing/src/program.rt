@@ -1,5 +1,5 @@
 // The programs that read an input and print what is said of it: `bounds`, `bounds0`, `ways` and `cycles`. Where one cannot read or write, it says so on standard error
-// and ends as after a listing; its script gives a status for it.
+// and ends as it would otherwise; its script gives a status for it.
 use std::io;
 
 // `bytes` is the room for the input: one byte more than is allowed shows that the input is longer. `tell` prints what is said of what was read.

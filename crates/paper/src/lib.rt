@@ -17,7 +17,7 @@ pub use ceilings::{
     MOST_NODES, SETS_FROM, UNFETCHED,
 };
 pub use methods::{kept_from, shift_of};
-pub use policies::{FIFO, LRU, NMRU, Policy, TREE, has_floors};
+pub use policies::{FIFO, LRU, NMRU, Policy, TREE, bits_below, has_floors};
 pub use versions::{UNLIMITED, WITH_W, WITHOUT_W, at_most, is_bad_version};
 
 // "Addresses, block numbers and set numbers, which the sources distinguish, are each kept apart."

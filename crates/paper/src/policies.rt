@@ -72,7 +72,19 @@ impl Policy {
     }
 }
 
-// Of a number: every number gets an answer.
+// The two that follow are of a number, as a caller has it, and every number gets an answer: one above the last has the last one's parts.
+
+// The same of a policy's number.
+pub fn bits_below(policy: u8, k: usize) -> u16
+    requires { k ≤ 8 }
+    ensures { result ≡ (Policies.parts_of policy).bits k }
+{
+    match Policy::of(policy) {
+        Some(p) => p.bits_below(k),
+        None => Policy::Tree.bits_below(k),
+    }
+}
+
 // "Set bound: for LRU and NMRU, A. For FIFO, the least of A and" the floors. For the tree "the sum A".
 pub fn has_floors(policy: u8) -> bool
     ensures { result ≡ (Policies.parts_of policy).floors }

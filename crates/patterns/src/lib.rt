@@ -22,10 +22,7 @@ fn binary(out: &mut [u8], at: usize, bits: u8, w: usize) -> usize
     ensures { Put out.old at (Patterns.binary bits w) result out.new }
 {
     let mut to = at;
-    // `while`: i goes down, and is at once the number of digits that are left.
-    let mut i = w;
-    while i > 0 {
-        i -= 1;
+    for i in (0..w).rev() {
         out[to] = b'0' + (bits >> i) % 2;
         to += 1;
     }

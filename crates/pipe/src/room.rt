@@ -7,8 +7,8 @@ use crate::channel::{End, Why};
 use answers::{ACCESSES, NUMBERS, ROOM};
 use frames::places::ARGUMENTS_ROOM;
 
-// A function names the fields that it uses first, each lent whole, and takes a part of that: the checker has no rule for a part behind a reference.
-// For a request's lent memory and what stands before it in the answer, for a trace's blocks or the rows of a writer or a finder, and for the numbers of a check or a salvage.
+// `bytes` is for a request's lent memory and for what stands before it in the answer, `blocks` for a trace's blocks or the rows of a writer or a finder, `numbers` for those of a check or a salvage.
+// Whoever uses a field gives it a name first and takes a part of that: the checker has no rule for a part behind a reference.
 #[derive(Drop)]
 pub struct Room<'a> {
     pub bytes: &'a mut [u8; ROOM],

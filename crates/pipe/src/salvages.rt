@@ -25,7 +25,7 @@ fn salvaged<R: Read, W: Write>(
     channel.write(&bytes[at..])
 }
 
-// By itself: the check knows the room's length by its type where it is lent whole.
+// The room for the file is made here and lent whole to `salvaged`, where its length is known by its type.
 pub fn salvage<R: Read, W: Write>(
     channel: &mut Channel<R, W>,
     request: &[u8; ARGUMENTS_ROOM],

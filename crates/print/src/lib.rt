@@ -51,9 +51,8 @@ pub fn refusal(out: &mut [u8], at: usize, r: Refusal) -> usize
 }
 
 // Writes what stands before a place to standard output.
-pub fn send(rt: &impl Print, out: &[u8], at: usize) -> io::Result<()> {
-    if at <= out.len() {
-        rt.write_all(&out[0..at])?;
-    }
-    Ok(())
+pub fn send(rt: &impl Print, out: &[u8], at: usize) -> io::Result<()>
+    requires { at ≤ length out.now }
+{
+    rt.write_all(&out[0..at])
 }

@@ -2,7 +2,6 @@
 #![tactic(auto)]
 
 ghost use Rattle.std.specs.Prelude.{◌≡◌, ◌+◌, ◌*◌, ◌≤◌, length, true};
-ghost use Rattle.frames.specs.Room.{accesses};
 ghost use Rattle.listing.specs.Listed.{Printed};
 ghost use Rattle.waylines.specs.WayLines as WayLines;
 
@@ -57,20 +56,12 @@ fn counted(input: &[u8], blocks: &mut [u16], out: &mut [u8; LONGEST]) -> usize
 }
 
 // As much of the room as the trace takes.
-fn part(input: &[u8], blocks: &mut [u16], out: &mut [u8; LONGEST]) -> usize
-    requires accesses_in_bounds { accesses ≤ length blocks.old }
-    requires input_value { WayLines.whole (length input.now) ≡ true }
+fn part(input: &[u8], blocks: &mut [u16; ACCESSES], out: &mut [u8; LONGEST]) -> usize
+    requires { WayLines.whole (length input.now) ≡ true }
     ensures { Printed (WayLines.printed_for (WayLines.sets_in input.now) (WayLines.trace_in input.now)) out.old result out.new }
 {
     let n = input.len() / 2 - 1;
     counted(input, &mut blocks[0..n], out)
-}
-
-fn with_room(input: &[u8], blocks: &mut [u16; ACCESSES], out: &mut [u8; LONGEST]) -> usize
-    requires { WayLines.whole (length input.now) ≡ true }
-    ensures { Printed (WayLines.printed_for (WayLines.sets_in input.now) (WayLines.trace_in input.now)) out.old result out.new }
-{
-    part(input, blocks, out)
 }
 
 // 28, which `bounds` prints for an input that is too long, stands for every input that is no number of sets and a trace.
@@ -79,7 +70,7 @@ pub fn ways(input: &[u8], out: &mut [u8; LONGEST]) -> usize
 {
     if is_whole(input.len()) {
         let mut blocks = [0u16; ACCESSES];
-        with_room(input, &mut blocks, out)
+        part(input, &mut blocks, out)
     } else {
         refused(out, paper::refuse(28, 0))
     }

@@ -1,4 +1,4 @@
--- `weigh` answers as the body's chain: u is where the nodes were looked at, n where they were counted, z where their rows were measured, m where the room was measured, g where the evidence was judged.
+-- `weigh` answers as the body's chain.
 use Rattle.std.specs.Prelude.{Ok, Err}
 use borrow.Author.Rules.{rules}
 use mathlib.Core.Path.{◌≡◌, refl, sym, ◌∙◌, ap}

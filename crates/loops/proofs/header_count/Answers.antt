@@ -1,4 +1,4 @@
--- The front of the loops is lent: what is counted over it is counted over the first n records (`count_front`).
+-- The front of the loops is lent: what is counted over it is counted over the first j + 1 records (`count_front`).
 use Prim.Native.Nat.{◌+◌}
 use native.Mathlib.Omega.{arith}
 use native.Mathlib.Numerals.{add-one}

@@ -6,6 +6,3 @@ use Rattle.patterns.proofs.binary.Given as goal
 
 abbrev pub invariant-loop-i : goal.invariant-loop-i
 invariant-loop-i l = (Left l.initial.out l.at (binary l.bits l.w) l.out l.to (binary l.bits l.i)) × (l.i ≤ 8)
-
-abbrev pub decreases-loop-i : goal.decreases-loop-i
-decreases-loop-i l = l.i

@@ -1,4 +1,4 @@
--- `writer::write_fitting`: the file's length is known before a byte is written; g is where its sections' end was read.
+-- `writer::write_fitting`: the file's length is known before a byte is written.
 use Prim.Native.Nat.{◌≤◌}
 use native.Mathlib.Omega.{arith}
 use borrow.Author.Rules.{rules}

@@ -1,4 +1,4 @@
--- The edge comes from a node of the scope; of an edge that breaks its rule that node's block and row tell which. p is what is known at the start.
+-- The edge comes from a node of the scope; of an edge that breaks its rule that node's block and row tell which.
 use native.Mathlib.Omega.{arith}
 use mathlib.Core.Path.{refl}
 use borrow.Author.Tests.{eq-eqb, ne_eqb}

@@ -1,4 +1,4 @@
--- `lists::turns::fact_rules` walks through the facts: q is where a fact has had its turn, l where the loop began it.
+-- `FactLists::fact_rules` walks through the facts.
 use borrow.Author.Rules.{rules}
 use Rattle.lists.proofs.Walk.{walk_start, walk_on, walk_stops, walk_done}
 use Rattle.lists.proofs.turns.FactLists.fact_rules.Goals as goal
