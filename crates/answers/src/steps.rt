@@ -30,7 +30,7 @@ fn put_answer(out: &mut [u8], outcome: Result<Outcome, Refusal>, lines: [u16; 8]
     let after_head = frames::front(
         out,
         0,
-        Operation::Step,
+        Operation::Step as u8,
         places::OUTCOME_WIDTH,
         heads::step(outcome),
     );

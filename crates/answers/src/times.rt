@@ -32,7 +32,7 @@ fn framed(request: &[u8; places::ARGUMENTS_ROOM], lent: &[u8], costs: &mut [u32]
     ensures { out.new ≡ Frames.time_frame (Frames.time_asked request.now lent.now) }
 {
     let head = heads::time(timed(request, lent, costs));
-    frames::front(out, 0, Operation::Time, places::TIME_WIDTH, head);
+    frames::front(out, 0, Operation::Time as u8, places::TIME_WIDTH, head);
 }
 
 // The answer has bytes of its own, as that of all ways, and fills them.

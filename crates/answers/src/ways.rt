@@ -27,7 +27,7 @@ fn put_answer(out: &mut [u8], head: Head, counts: [u64; 8])
     requires { length out.old ≡ Places.counts_size }
     ensures { out.new ≡ Frames.ways_text head counts }
 {
-    let after_head = frames::front(out, 0, Operation::AllWays, 0, head);
+    let after_head = frames::front(out, 0, Operation::AllWays as u8, 0, head);
     numbers::put_list(out, after_head, &counts);
 }
 

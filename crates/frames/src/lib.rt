@@ -30,12 +30,12 @@ pub struct SalvageHead {
 }
 
 // Puts the head of an answer at a place: the operation, the refusal, and the value in as many bytes as it takes.
-pub fn front(out: &mut [u8], at: usize, operation: Operation, width: usize, h: Head) -> usize
+pub fn front(out: &mut [u8], at: usize, operation: u8, width: usize, h: Head) -> usize
     requires { at + head_size + width ≤ length out.old }
-    ensures put { Put out.old at (Frames.front (number_of operation) width h) result out.new }
+    ensures put { Put out.old at (Frames.front operation width h) result out.new }
     ensures value { result ≡ at + head_size + width }
 {
-    let after_operation = numbers::put(out, at, 1, operation.number() as u64);
+    let after_operation = numbers::put(out, at, 1, operation as u64);
     let refusal = h.refusal;
     let after_number = numbers::put(out, after_operation, 1, refusal.number as u64);
     let after_place = numbers::put(out, after_number, 8, refusal.place as u64);
@@ -57,7 +57,7 @@ pub fn front_before(
     ensures value { result + head_size + width ≡ end }
 {
     let at = end - places::HEAD_SIZE - width;
-    front(out, at, operation, width, h);
+    front(out, at, operation.number(), width, h);
     at
 }
 
@@ -67,7 +67,13 @@ pub fn salvage_front(out: &mut [u8], at: usize, h: SalvageHead) -> usize
     ensures put { Put out.old at (Frames.salvage_front h) result out.new }
     ensures value { result ≡ at + head_size + length_width + count_width }
 {
-    let after_length = front(out, at, Operation::Salvage, places::LENGTH_WIDTH, h.head);
+    let after_length = front(
+        out,
+        at,
+        Operation::Salvage as u8,
+        places::LENGTH_WIDTH,
+        h.head,
+    );
     numbers::put(out, after_length, places::COUNT_WIDTH, h.count)
 }
 

@@ -4,6 +4,7 @@ use native.Mathlib.Nat.{pow-suc, mod-eq_of_lt, not-suc-le-zero, le_of_suc-le-suc
 use native.Mathlib.Decide.{ℕ_discrete, dec_lt}
 use native.Mathlib.Omega.{arith}
 use mathlib.Core.Path.{◌≡◌, refl, sym, ◌∙◌, ap, ap₂}
+use mathlib.Core.List.{List}
 use lib.ListN.{get_or}
 use lib.Pow.{pow-lt, pow_mono, ones_split, high, ones_lt}
 use lib.Bits.{bit_or, bit_and, or_lt, and_step, and_zero_r}
@@ -134,3 +135,7 @@ next_at p j h g =
     let q : (8 * p + j) / 8 ≡ p = omega arith in
     let r : (8 * p + j) % 8 ≡ j = omega arith in
     get_d_table (λ i. marked 8 (i / 8) (i % 8)) 2048 (8 * p + j) 0 (omega arith) ∙ ap₂ (marked 8) q r
+
+-- and so in a table that is the rule's
+pub at_entry : {t : List ℕ} {p j : ℕ} → t ≡ next_bits → p < 256 → j < 8 → get_or t (8 * p + j) 0 ≡ marked 8 p j
+at_entry {t} {p} {j} e h g = ap (λ (l : List ℕ). get_or l (8 * p + j) 0) e ∙ next_at p j (omega (arith, h)) g

@@ -1,15 +1,13 @@
--- The lines of the patterns: what is left of each loop, how long they are, and the table's entries.
-use Prim.Native.Nat.{ℕ, zero, suc, ◌+◌, ◌-◌, ◌*◌, ◌/◌, ◌%◌, ◌^◌, ◌≤◌, ◌<◌}
+-- The lines of the patterns: what is left of each loop, and how long they are.
+use Prim.Native.Nat.{ℕ, zero, suc, ◌+◌, ◌-◌, ◌*◌, ◌^◌, ◌≤◌, ◌<◌}
 use native.Mathlib.Omega.{arith}
 use native.Mathlib.Numerals.{add-one}
 use mathlib.Core.Path.{◌≡◌, refl, ◌∙◌, ap, subst}
 use mathlib.Core.List.{List, [], ◌∷◌, ◌++◌, append-nil}
-use lib.ListN.{length, get_or, drop, length-append, drop_of_length-le}
+use lib.ListN.{length, drop, length-append, drop_of_length-le}
 use Rattle.paper.specs.Machines.{bit_at, marked}
 use Rattle.paper.specs.Listings.{bytes}
-use Rattle.paper.specs.NextBits.{next_bits}
 use Rattle.paper.specs.Patterns.{binary, next_from, pattern_line, patterns_from, patterns, missed, tree_table, tree_patterns}
-use Rattle.paper.proofs.TableLaws.{get_d_table}
 use Rattle.puts.specs.Put.{Put}
 use Rattle.puts.proofs.Putting.{Left, left_start, put_whole}
 
@@ -57,14 +55,6 @@ put_same {l} {m} {at = at} {to = to} e p = subst (λ (text : List ℕ). Put l at
 -- the same bits have the same digits
 pub same_bits : (w : ℕ) {x y : ℕ} → x ≡ y → binary x w ≡ binary y w
 same_bits w e = ap (λ (b : ℕ). binary b w) e
-
--- entry 8p + j of a table that is the rule's
-pub at_entry : {t : List ℕ} {p j : ℕ} → t ≡ next_bits → p < 256 → j < 8 → get_or t (8 * p + j) 0 ≡ marked 8 p j
-unfolding next_bits
-at_entry {t} {p} {j} e hp hj =
-    let a : (8 * p + j) / 8 ≡ p = omega arith in
-    let b : (8 * p + j) % 8 ≡ j = omega arith in
-    ap (λ (l : List ℕ). get_or l (8 * p + j) 0) e ∙ get_d_table (λ i. marked 8 (i / 8) (i % 8)) 2048 (8 * p + j) 0 (omega arith) ∙ rw (a, b)
 
 -- before a loop all of n is left
 pub all_left : {old : List ℕ} {at : ℕ} (text : ℕ → List ℕ) (n : ℕ) → Left old at (text n) old at (text (n - 0))

@@ -1,9 +1,31 @@
 // One request of each operation whose answer has bytes of its own: for all ways, and for a time.
+ghost use Rattle.std.specs.Prelude.{◌≡◌, ◌+◌, ◌*◌, ◌≤◌, length};
+ghost use Rattle.paper.specs.Files.{u32_at};
+ghost use Rattle.frames.specs.Places as Places;
+ghost use Rattle.frames.specs.Room as Rooms;
+
 use crate::channel::{Channel, End};
+use crate::limits;
 use crate::room::{Room, count};
-use answers::{ACCESSES, COSTS, FILE};
+use answers::{ACCESSES, COSTS};
 use frames::places::{self, ARGUMENTS_ROOM};
 use std::io::{Read, Write};
+
+// The bytes that are read and answered are as many as the request says.
+fn counted<R: Read, W: Write>(
+    channel: &mut Channel<R, W>,
+    request: &[u8; ARGUMENTS_ROOM],
+    bytes: &mut [u8],
+    blocks: &mut [u16; ACCESSES],
+) -> Result<(), End>
+    requires request_in_bounds { u32_at request.now Places.ways_accesses ≤ Rooms.accesses }
+    requires bytes_len { length bytes.old ≡ 2 * u32_at request.now Places.ways_accesses }
+{
+    channel.read(bytes)?;
+    let mut out = [0u8; places::COUNTS_SIZE];
+    answers::ways::answer(request, bytes, blocks, &mut out);
+    channel.write(&out)
+}
 
 // The arguments end with the number of blocks.
 pub fn all_ways<R: Read, W: Write>(
@@ -11,13 +33,25 @@ pub fn all_ways<R: Read, W: Write>(
     request: &[u8; ARGUMENTS_ROOM],
     room: &mut Room,
 ) -> Result<(), End> {
-    let n = count(request, places::WAYS_ACCESSES, ACCESSES)?;
+    let n = count(request, places::WAYS_ACCESSES, limits::accesses())?;
     let blocks = &mut *room.blocks;
     let whole = &mut *room.bytes;
-    let bytes = &mut whole[0..2 * n];
+    counted(channel, request, &mut whole[0..2 * n], blocks)
+}
+
+// So are the bytes of the file and of the costs.
+fn timed<R: Read, W: Write>(
+    channel: &mut Channel<R, W>,
+    request: &[u8; ARGUMENTS_ROOM],
+    bytes: &mut [u8],
+) -> Result<(), End>
+    requires request_bound { u32_at request.now Places.time_costs ≤ Rooms.costs }
+    requires bytes_len { length bytes.old ≡ u32_at request.now Places.time_file + 4 * u32_at request.now Places.time_costs }
+{
     channel.read(bytes)?;
-    let mut out = [0u8; places::COUNTS_SIZE];
-    answers::ways::answer(request, bytes, blocks, &mut out);
+    let mut costs = [0u32; COSTS];
+    let mut out = [0u8; places::CYCLES_SIZE];
+    answers::times::answer(request, bytes, &mut costs, &mut out);
     channel.write(&out)
 }
 
@@ -27,13 +61,8 @@ pub fn time<R: Read, W: Write>(
     request: &[u8; ARGUMENTS_ROOM],
     room: &mut Room,
 ) -> Result<(), End> {
-    let n = count(request, places::TIME_FILE, FILE)?;
-    let m = count(request, places::TIME_COSTS, COSTS)?;
+    let n = count(request, places::TIME_FILE, limits::file())?;
+    let m = count(request, places::TIME_COSTS, limits::costs())?;
     let whole = &mut *room.bytes;
-    let bytes = &mut whole[0..n + 4 * m];
-    channel.read(bytes)?;
-    let mut costs = [0u32; COSTS];
-    let mut out = [0u8; places::CYCLES_SIZE];
-    answers::times::answer(request, bytes, &mut costs, &mut out);
-    channel.write(&out)
+    timed(channel, request, &mut whole[0..n + 4 * m])
 }

@@ -3,6 +3,7 @@
 
 mod channel;
 mod counts;
+mod limits;
 mod requests;
 mod room;
 mod salvages;

@@ -3,8 +3,8 @@ ghost use Rattle.std.specs.Prelude.{◌≡◌, ◌≤◌, length};
 ghost use Rattle.frames.specs.Places.{lent_at};
 
 use crate::channel::{Channel, End};
+use crate::limits;
 use crate::room::{Room, count};
-use answers::{ACCESSES, FILE, FOUND, NUMBERS};
 use frames::operations::Operation;
 use frames::places::{self, ARGUMENTS_ROOM, LENT_AT};
 use std::io::{Read, Write};
@@ -39,8 +39,8 @@ pub fn trace<R: Read, W: Write>(
     request: &[u8; ARGUMENTS_ROOM],
     room: &mut Room,
 ) -> Result<(), End> {
-    let n = count(request, places::TRACE_ACCESSES, ACCESSES)?;
-    let m = count(request, places::TRACE_MARKS, ACCESSES)?;
+    let n = count(request, places::TRACE_ACCESSES, limits::accesses())?;
+    let m = count(request, places::TRACE_MARKS, limits::accesses())?;
     let blocks = &mut *room.blocks;
     let whole = &mut *room.bytes;
     let bytes = &mut whole[0..LENT_AT + 2 * n + m];
@@ -55,8 +55,8 @@ pub fn check<R: Read, W: Write>(
     request: &[u8; ARGUMENTS_ROOM],
     room: &mut Room,
 ) -> Result<(), End> {
-    let n = count(request, places::CHECK_FILE, FILE)?;
-    let m = count(request, places::CHECK_NUMBERS, NUMBERS)?;
+    let n = count(request, places::CHECK_FILE, limits::file())?;
+    let m = count(request, places::CHECK_NUMBERS, limits::numbers())?;
     let numbers = &mut *room.numbers;
     let whole = &mut *room.bytes;
     let bytes = &mut whole[0..LENT_AT + n + 8 * m];
@@ -71,8 +71,8 @@ pub fn find<R: Read, W: Write>(
     request: &[u8; ARGUMENTS_ROOM],
     room: &mut Room,
 ) -> Result<(), End> {
-    let n = count(request, places::FIND_FILE, FILE)?;
-    let m = count(request, places::FIND_NUMBERS, FOUND)?;
+    let n = count(request, places::FIND_FILE, limits::file())?;
+    let m = count(request, places::FIND_NUMBERS, limits::found())?;
     let rows = &mut *room.blocks;
     let whole = &mut *room.bytes;
     let bytes = &mut whole[0..LENT_AT + n + 2 * m];

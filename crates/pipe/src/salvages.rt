@@ -1,7 +1,8 @@
 // One request of the salvage. Its file has room here, because what is lent is written while the file is read.
 use crate::channel::{Channel, End};
+use crate::limits;
 use crate::room::{Room, count};
-use answers::{NUMBERS, SALVAGE};
+use answers::SALVAGE;
 use frames::places::{self, ARGUMENTS_ROOM, LENT_AT};
 use std::io::{Read, Write};
 
@@ -12,9 +13,9 @@ fn salvaged<R: Read, W: Write>(
     room: &mut Room,
     space: &mut [u8; SALVAGE],
 ) -> Result<(), End> {
-    let n = count(request, 0, SALVAGE)?;
-    let m = count(request, places::SALVAGE_OUT, SALVAGE)?;
-    let d = count(request, places::SALVAGE_NUMBERS, NUMBERS)?;
+    let n = count(request, 0, limits::salvage())?;
+    let m = count(request, places::SALVAGE_OUT, limits::salvage())?;
+    let d = count(request, places::SALVAGE_NUMBERS, limits::numbers())?;
     let file = &mut space[0..n];
     channel.read(file)?;
     let numbers = &mut *room.numbers;

@@ -1,7 +1,8 @@
 // One request of the writer. Its lists but the rows are short, and have room here.
 use crate::channel::{Channel, End};
+use crate::limits;
 use crate::room::{Room, count};
-use answers::{ACCESSES, EDGES, HEADS, LOOPS, NODES, OUT};
+use answers::{EDGES, HEADS, LOOPS, NODES, OUT};
 use frames::places::{self, ARGUMENTS_ROOM, LENT_AT};
 use std::io::{Read, Write};
 
@@ -11,11 +12,11 @@ pub fn write<R: Read, W: Write>(
     request: &[u8; ARGUMENTS_ROOM],
     room: &mut Room,
 ) -> Result<(), End> {
-    let n = count(request, places::WRITE_NODES, NODES)?;
-    let e = count(request, places::WRITE_EDGES, EDGES)?;
-    let l = count(request, places::WRITE_LOOPS, LOOPS)?;
-    let h = count(request, places::WRITE_HEADS, HEADS)?;
-    let r = count(request, places::WRITE_ROWS, ACCESSES)?;
+    let n = count(request, places::WRITE_NODES, limits::nodes())?;
+    let e = count(request, places::WRITE_EDGES, limits::edges())?;
+    let l = count(request, places::WRITE_LOOPS, limits::loops())?;
+    let h = count(request, places::WRITE_HEADS, limits::heads())?;
+    let r = count(request, places::WRITE_ROWS, limits::accesses())?;
     let m = count(request, places::WRITE_LENT, OUT)?;
     let rows = &mut *room.blocks;
     let whole = &mut *room.bytes;

@@ -9,6 +9,9 @@ pub fn word(out: &mut [u8], at: usize, word: &[u8]) -> usize
     ensures { Put out.old at word.now result out.new }
 {
     let end = at + word.len();
-    out[at..end].copy_from_slice(word);
+    // Not by the library's copy of a slice: that is a `memmove`, a name which a C library would have to bring.
+    for (i, byte) in word.iter().enumerate() {
+        out[at + i] = *byte;
+    }
     end
 }

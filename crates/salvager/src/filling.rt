@@ -14,6 +14,17 @@ use layout::places::FACTS_FIELD;
 use paper::Trailer;
 use puts::word;
 
+// The first n numbers of the table. Number by number, for the reason that `puts::word` gives.
+pub fn copy_numbers(list: &mut [u64], whys: &[u64], n: usize)
+    requires n_in_bounds { n ≤ length list.old }
+    requires n_in_bounds_2 { n ≤ length whys.now }
+    ensures { Put list.old 0 (part whys.now 0 n) n list.new }
+{
+    for i in 0..n {
+        list[i] = whys[i];
+    }
+}
+
 // "every kept fact unchanged", one after another. (The reasons are handed on for the contract.)
 fn put_facts(
     out: &mut [u8],

@@ -12,7 +12,7 @@ ghost use Rattle.salvager.specs.Done.{room_rule, Done};
 mod filling;
 mod sifting;
 
-use filling::put_file;
+use filling::{copy_numbers, put_file};
 use layout::places::TRAILER_SIZE;
 use paper::{MOST_FACTS, MOST_NODES, Refusal, Salvage, Trailer};
 use sifting::sift;
@@ -51,7 +51,7 @@ fn fill(
         return Err(paper::refuse(20, 0));
     }
     put_file(out, file, trailer, s, spans, whys);
-    dropped[..numbers].copy_from_slice(&whys[..numbers]);
+    copy_numbers(dropped, whys, numbers);
     Ok(Salvage {
         length: size,
         dropped: s.dropped as usize,

@@ -45,6 +45,60 @@ const ONES: [u8; 15] = [
 // and of bits that are all 0.
 const ZEROS: [u8; 15] = [0, 1, 0, 3, 1, 4, 0, 11, 3, 17, 1, 36, 4, 64, 0];
 
+// What a miss makes of these bits.
+pub fn missed(k: usize, bits: u8, misses: &[u16; 256]) -> u16
+    requires k_value { offered tree_policy k ≡ true }
+    requires bits_bound { bits < 2 ^ (k - 1) }
+    requires misses_value { misses.now ≡ tree_misses }
+    ensures { result ≡ at_miss k bits }
+{
+    let first: usize = 1 << (k - 1);
+    misses[first + (bits as usize)]
+}
+
+// "Each access turns the bits on its line's path away from it": those that are 1 in both tables become 1, those that are 0 in both become 0.
+pub fn turn(k: usize, bits: u8, bit: u16, ones: &[u8; 15], zeros: &[u8; 15]) -> u8
+    requires k_value { offered tree_policy k ≡ true }
+    requires bits_bound { bits < 2 ^ (k - 1) }
+    requires bit { Bit k bit }
+    requires ones_value { ones.now ≡ turned_ones }
+    requires zeros_value { zeros.now ≡ turned_zeros }
+    ensures { result ≡ turned k bits (count_trailing_zeros 32 bit) }
+{
+    let j = u32::trailing_zeros(bit as u32) as usize;
+    let at = k - 1 + j;
+    bits & ones[at] | zeros[at]
+}
+
+// The line that an access goes to: the block's, or "that line, empty or not". A guess at the line's bit comes with the block, as in an NMRU run.
+pub fn line(state: SetState, k: usize, block: Block, guess: u8, misses: &[u16; 256]) -> Line
+    requires k_value { offered tree_policy k ≡ true }
+    requires state_value { legal tree_policy k state ≡ true }
+    requires block_nonzero { block.0 ≢ none }
+    requires misses_value { misses.now ≡ tree_misses }
+    ensures { result ≡ tree_line_for k state block.0 }
+{
+    let lines = state.lines;
+    let w = lines::weight(lines, block.0);
+    let guessed = (guess % 255) as u16;
+    if w == 255 - guessed {
+        return Line {
+            bit: guessed,
+            hit: true,
+        };
+    }
+    if 0 < w {
+        return Line {
+            bit: 255 - w,
+            hit: true,
+        };
+    }
+    Line {
+        bit: missed(k, state.bits, misses) % 256,
+        hit: false,
+    }
+}
+
 // The three tables, wherever they lie.
 #[derive(Clone, Copy)]
 pub struct TreeTables<'a> {
@@ -90,55 +144,32 @@ pub fn tables() -> TreeTables<'static> {
     }
 }
 
+// Each asks the table that it needs.
 impl TreeTables<'_> {
-    // What a miss makes of these bits.
     pub fn missed(self, k: usize, bits: u8) -> u16
         requires k_value { offered tree_policy k ≡ true }
         requires bits_bound { bits < 2 ^ (k - 1) }
         ensures { result ≡ at_miss k bits }
     {
-        let first: usize = 1 << (k - 1);
-        self.misses[first + (bits as usize)]
+        missed(k, bits, self.misses)
     }
 
-    // "Each access turns the bits on its line's path away from it": those that are 1 in both tables become 1, those that are 0 in both become 0.
     pub fn turn(self, k: usize, bits: u8, bit: u16) -> u8
         requires k_value { offered tree_policy k ≡ true }
         requires bits_bound { bits < 2 ^ (k - 1) }
         requires bit { Bit k bit }
         ensures { result ≡ turned k bits (count_trailing_zeros 32 bit) }
     {
-        let j = u32::trailing_zeros(bit as u32) as usize;
-        let at = k - 1 + j;
-        bits & self.ones[at] | self.zeros[at]
+        turn(k, bits, bit, self.ones, self.zeros)
     }
 
-    // The line that an access goes to: the block's, or "that line, empty or not". A guess at the line's bit comes with the block, as in an NMRU run.
     pub fn line(self, state: SetState, k: usize, block: Block, guess: u8) -> Line
         requires k_value { offered tree_policy k ≡ true }
         requires state_value { legal tree_policy k state ≡ true }
         requires block_nonzero { block.0 ≢ none }
         ensures { result ≡ tree_line_for k state block.0 }
     {
-        let lines = state.lines;
-        let w = lines::weight(lines, block.0);
-        let guessed = (guess % 255) as u16;
-        if w == 255 - guessed {
-            return Line {
-                bit: guessed,
-                hit: true,
-            };
-        }
-        if 0 < w {
-            return Line {
-                bit: 255 - w,
-                hit: true,
-            };
-        }
-        Line {
-            bit: self.missed(k, state.bits) % 256,
-            hit: false,
-        }
+        line(state, k, block, guess, self.misses)
     }
 
     // One step at the access's line. A miss has its line and the bits after it from one entry, so that the next access need not wait for the line.

@@ -13,16 +13,16 @@ turn_of-requires c =
 
 pub returns-in_err-kept : goal.returns-in_err-kept
 returns-in_err-kept c =
-    search (rules, walk_stops _ _ _ _ _ c.loop-i.invariant c.loop-i-test.true _ c.turn_of.ensures _ c.in_err-kept.was)
+    search (rules, walk_stops _ _ _ _ _ c.loop-i.invariant (omega (arith, c.loop-i-test.true)) _ c.turn_of.ensures _ c.in_err-kept.was)
 
 pub loop-i-preserved : goal.loop-i-preserved
 loop-i-preserved c =
-    walk_on _ _ _ _ _ c.loop-i.invariant c.loop-i-test.true _ c.turn_of.ensures _ c.in_ok-kept.was
+    walk_on _ _ _ _ _ c.loop-i.invariant (omega (arith, c.loop-i-test.true)) _ c.turn_of.ensures _ c.in_ok-kept.was
 
 pub returns-then-p-end_of : goal.returns-then-p-end_of
 returns-then-p-end_of c =
-    walk_left _ _ _ _ _ c.loop-i.invariant c.loop-i-test.false _ (omega (arith, c.if-p-end_of.true, c.end_of.ensures)) c.refuse.ensures
+    walk_left _ _ _ _ _ c.loop-i.invariant (omega (arith, c.loop-i-test.false)) _ (omega (arith, c.if-p-end_of.true, c.end_of.ensures)) c.refuse.ensures
 
 pub returns : goal.returns
 returns c =
-    walk_done _ _ _ _ _ c.loop-i.invariant c.loop-i-test.false (omega (arith, c.if-p-end_of.false, c.end_of.ensures))
+    walk_done _ _ _ _ _ c.loop-i.invariant (omega (arith, c.loop-i-test.false)) (omega (arith, c.if-p-end_of.false, c.end_of.ensures))

@@ -9,7 +9,7 @@ unfolding head front
 returns c =
     record {
       put = put_then
-          (put_then (rw c.number.ensures at c.put-after_operation.ensures.put)
+          (put_then c.put-after_operation.ensures.put
           (put_then c.put-after_number.ensures.put (put_then c.put-after_place.ensures.put c.put-after_second.ensures.put)))
           c.put.ensures.put;
       value = search rules;

@@ -1,4 +1,4 @@
--- `trees::TreeTables::missed`: the entry of k ways' bits (`miss_at_lem`).
+-- `trees::missed`: the entry of k ways' bits (`miss_at_lem`).
 use Prim.Native.Nat.{ℕ, ◌+◌, ◌-◌, ◌*◌, ◌%◌, ◌^◌, ◌≤◌}
 use native.Mathlib.Omega.{arith}
 use mathlib.Core.Path.{◌≡◌, ◌∙◌, ap₂}
@@ -7,7 +7,7 @@ use lib.ListN.{get_or}
 use lib.Pow.{shl_exact}
 use Rattle.paper.proofs.TreeLaws.{tree_range}
 use Rattle.trees.proofs.TreeEntries.{ways, first_low, miss_at_lem}
-use Rattle.trees.proofs.TreeTables.missed.Goals as goal
+use Rattle.trees.proofs.missed.Goals as goal
 
 first_is : (k : ℕ) → k ≤ 8 → 1 * 2 ^ (k - 1) % 2 ^ 64 ≡ 2 ^ (k - 1)
 first_is k h = shl_exact {a = 1} 1 (k - 1) 64 (omega arith) (omega arith) ∙ omega arith
@@ -23,13 +23,13 @@ overflow_add-result c =
     let w = ways _ c.requires.k_value in
     omega (arith, first_is c.args.k (tree_range _ w).1, first_low _ w _ c.requires.bits_bound)
 
-pub offset_bounds-self-first : goal.offset_bounds-self-first
-offset_bounds-self-first c =
+pub offset_bounds-misses-first : goal.offset_bounds-misses-first
+offset_bounds-misses-first c =
     let w = ways _ c.requires.k_value in
     omega (arith, first_is c.args.k (tree_range _ w).1, first_low _ w _ c.requires.bits_bound)
 
-pub bounds-self-first : goal.bounds-self-first
-bounds-self-first c =
+pub bounds-misses-first : goal.bounds-misses-first
+bounds-misses-first c =
     let w = ways _ c.requires.k_value in
     omega (arith, first_is c.args.k (tree_range _ w).1, first_low _ w _ c.requires.bits_bound)
 
@@ -37,5 +37,5 @@ pub returns : goal.returns
 returns c =
     let s = c.before in
     let w = ways _ s.requires.k_value in
-    ap₂ (λ (l : List ℕ) (n : ℕ). get_or l (n + s.args.bits) 0) s.args.self.misses_made (first_is s.args.k (tree_range _ w).1)
+    ap₂ (λ (l : List ℕ) (n : ℕ). get_or l (n + s.args.bits) 0) s.requires.misses_value (first_is s.args.k (tree_range _ w).1)
     ∙ miss_at_lem _ w s.args.bits s.requires.bits_bound

@@ -1,4 +1,4 @@
--- `trees::TreeTables::line`: the guess, where it is right, is the line's bit; at a miss the low byte of the entry is (`tree_line_lem`).
+-- `trees::line`: the guess, where it is right, is the line's bit; at a miss the low byte of the entry is (`tree_line_lem`).
 use Prim.Native.Nat.{ℕ, ◌%◌, ◌^◌}
 use mathlib.Core.Path.{◌≡◌, refl, ap, ◌∙◌}
 use lib.ListN.{length}
@@ -9,7 +9,7 @@ use Rattle.paper.proofs.MoveLaws.{legal_ready, tree_bits, line_low, guess_right,
 use Rattle.paper.proofs.Says.{says_true}
 use Rattle.paper.proofs.States.{says_offered}
 use Rattle.trees.proofs.TreeEntries.{ways, miss_parts, tree_line_lem}
-use Rattle.trees.proofs.TreeTables.line.Goals as goal
+use Rattle.trees.proofs.line.Goals as goal
 
 pub returns-then-w-guessed : goal.returns-then-w-guessed
 returns-then-w-guessed c =
@@ -43,7 +43,7 @@ returns-then-w-gt0 c =
 pub missed-requires : goal.missed-requires
 missed-requires c =
     let s = c.before.before.before.before in
-    record { k_value = s.requires.k_value; bits_bound = tree_bits tree_policy s.args.k s.args.state s.requires.state_value refl }
+    record { k_value = s.requires.k_value; bits_bound = tree_bits tree_policy s.args.k s.args.state s.requires.state_value refl; misses_value = s.requires.misses_value }
 
 pub returns : goal.returns
 returns c =
