@@ -11,7 +11,7 @@ use answers::{ACCESSES, COSTS};
 use frames::places::{self, ARGUMENTS_ROOM};
 use std::io::{Read, Write};
 
-// The bytes that are read and answered are as many as the request says.
+// The bytes that are read and answered, the blocks, are as many as the request says.
 fn counted<R: Read, W: Write>(
     channel: &mut Channel<R, W>,
     request: &[u8; ARGUMENTS_ROOM],
@@ -39,7 +39,7 @@ pub fn all_ways<R: Read, W: Write>(
     counted(channel, request, &mut whole[0..2 * n], blocks)
 }
 
-// So are the bytes of the file and of the costs.
+// The bytes that are read and answered, the file and the costs, are as many as the request says.
 fn timed<R: Read, W: Write>(
     channel: &mut Channel<R, W>,
     request: &[u8; ARGUMENTS_ROOM],

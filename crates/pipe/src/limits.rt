@@ -19,28 +19,28 @@ pub fn numbers() -> usize
     NUMBERS
 }
 
-// Numbers in a writer's nodes,
+// Numbers in a writer's nodes.
 pub fn nodes() -> usize
     ensures { result ≡ Rooms.nodes }
 {
     NODES
 }
 
-// in its edges,
+// Numbers in a writer's edges.
 pub fn edges() -> usize
     ensures { result ≡ Rooms.edges }
 {
     EDGES
 }
 
-// in its loops,
+// Numbers in a writer's loops.
 pub fn loops() -> usize
     ensures { result ≡ Rooms.loops }
 {
     LOOPS
 }
 
-// in its heads.
+// Numbers in a writer's heads.
 pub fn heads() -> usize
     ensures { result ≡ Rooms.heads }
 {
